@@ -1,0 +1,8 @@
+-- The theory of `field`: it knows the definitions of specs/ and no code.
+pub mod Modular
+pub mod Maximum
+pub mod Powers
+pub mod Reduction
+pub mod PrimeTable
+pub mod Inverses
+pub mod Products

@@ -1,0 +1,23 @@
+-- Operations on rows of residues, each place by its formula.
+--     dot ws xs n              the first n places of ws, each times its place of xs, summed
+--     plusMultiple p g xs ys   xs plus g times ys, place by place, modulo p
+--     multiple p g ys          g times ys, place by place, modulo p
+--     allBelow p xs            each place of xs is below p, as a test
+use mathlib.Core.Bool.{Bool}
+use mathlib.Core.List.{List}
+use Prim.Native.Nat.{ℕ, _+_, _*_, _%_}
+use lib.Dec.{ltb}
+use lib.ListN.{length}
+use Rattle.lists.specs.Places.{sum, tab, every, at}
+
+abbrev pub dot : List ℕ → List ℕ → ℕ → ℕ
+dot ws xs n = sum (λ j. at ws j * at xs j) n
+
+abbrev pub plusMultiple : ℕ → ℕ → List ℕ → List ℕ → List ℕ
+plusMultiple p g xs ys = tab (length xs) (λ j. (at xs j + g * at ys j) % p)
+
+abbrev pub multiple : ℕ → ℕ → List ℕ → List ℕ
+multiple p g ys = tab (length ys) (λ j. (g * at ys j) % p)
+
+abbrev pub allBelow : ℕ → List ℕ → Bool
+allBelow p xs = every (λ j. ltb (at xs j) p) (length xs)

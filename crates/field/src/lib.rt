@@ -1,0 +1,16 @@
+// Residues modulo an odd prime up to 251, and rows of them.
+//
+// The 53 primes and the search for one; inverses; the multiply-and-reduce cell; and over it the row operations that plans and
+// stores are made of. Stands on `lists`. Renders 01, "The plan" (the primes, residues) and "The written program" (tables m and m+1).
+mod primes;
+mod residues;
+mod rows;
+
+pub use primes::is_odd_prime;
+pub use residues::cell;
+pub use residues::inverse;
+pub use residues::reciprocal;
+pub use rows::add_multiple;
+pub use rows::all_below;
+pub use rows::dot;
+pub use rows::set_multiple;

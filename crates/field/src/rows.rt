@@ -1,0 +1,81 @@
+// Rows of residues. Each loop body is `cell` or one sum, so that the loops become vector code.
+ghost use mathlib.Core.Path.{_≡_};
+ghost use Prim.Native.Nat.{_≤_, _<_, _%_, max};
+ghost use lib.ListN.{length};
+ghost use Rattle.field.specs.Residues.{Modulus, Residues};
+ghost use Rattle.field.specs.Rows as specs;
+use crate::residues::cell;
+use crate::residues::reciprocal;
+
+// xs plus g times ys. With g = p - f it subtracts f times ys; g may be p itself, for f = 0.
+pub fn add_multiple(xs: &mut [u8], ys: &[u8], g: u8, p: u8)
+    requires { ⌜ Modulus p ⌝ }
+    requires { ⌜ length (now ys) ≡ length (now xs) ⌝ }
+    requires { ⌜ Residues p (now xs) ⌝ }
+    requires { ⌜ Residues p (now ys) ⌝ }
+    requires { ⌜ g ≤ p ⌝ }
+    ensures { λ _. ⌜ now (xs .exit) ≡ specs.plusMultiple p g (now (xs .entry)) (now (ys .entry)) ⌝ }
+{
+    let m = reciprocal(p);
+    let mut j = 0;
+    while j < xs.len() {
+        xs[j] = cell(xs[j], ys[j], g, p, m);
+        j += 1;
+    }
+}
+
+// g times ys, into out: a row scaled.
+pub fn set_multiple(out: &mut [u8], ys: &[u8], g: u8, p: u8)
+    requires { ⌜ Modulus p ⌝ }
+    requires { ⌜ length (now ys) ≡ length (now out) ⌝ }
+    requires { ⌜ Residues p (now ys) ⌝ }
+    requires { ⌜ g ≤ p ⌝ }
+    ensures { λ _. ⌜ now (out .exit) ≡ specs.multiple p g (now (ys .entry)) ⌝ }
+{
+    let m = reciprocal(p);
+    let mut j = 0;
+    while j < out.len() {
+        out[j] = cell(0, ys[j], g, p, m);
+        j += 1;
+    }
+}
+
+// The weighted sum of xs by ws, modulo p: products summed in 32 bits, reduced once at the end.
+pub fn dot(ws: &[u8], xs: &[u8], p: u8) -> u8
+    requires { ⌜ Modulus p ⌝ }
+    requires { ⌜ length (now xs) ≡ length (now ws) ⌝ }
+    requires { ⌜ length (now ws) ≤ 65536 ⌝ }
+    ensures { λ r. ⌜ r ≡ specs.dot (now (ws .entry)) (now (xs .entry)) (length (now (ws .entry))) % p ⌝ }
+{
+    let mut total: u32 = 0;
+    let mut j = 0;
+    while j < ws.len() {
+        total += (ws[j] as u32) * (xs[j] as u32);
+        j += 1;
+    }
+    (total % (p as u32)) as u8
+}
+
+// The larger of two bytes.
+fn larger(a: u8, b: u8) -> u8
+    ensures { λ r. ⌜ r ≡ max a b ⌝ }
+{
+    if a < b {
+        return b;
+    }
+    a
+}
+
+// Whether each byte of xs is below p, by their maximum.
+pub fn all_below(xs: &[u8], p: u8) -> bool
+    requires { ⌜ 0 < p ⌝ }
+    ensures { λ r. ⌜ r ≡ specs.allBelow p (now (xs .entry)) ⌝ }
+{
+    let mut top: u8 = 0;
+    let mut j = 0;
+    while j < xs.len() {
+        top = larger(top, xs[j]);
+        j += 1;
+    }
+    top < p
+}

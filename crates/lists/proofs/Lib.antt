@@ -1,0 +1,5 @@
+-- The laws of `lists`, one module for each definition, and one for loops that write a list in place.
+pub mod Sums
+pub mod Tabs
+pub mod Tests
+pub mod Overwrite

@@ -1,0 +1,36 @@
+-- The laws of `every` and of `&&`: a test of all places below n, computed once, gives the fact at each place, and the facts give the test.
+--     every-at, every-of     from the test to a place, and from all places to the test
+--     every-next             one place more
+--     both-true, both        from a conjunction to its halves, and back
+-- Assumes nothing.
+use mathlib.Core.Path.{_≡_, refl, sym, ap, _∙_}
+use mathlib.Core.Bool.{Bool, true, false, _&&_, false≢true}
+use mathlib.Core.Logic.{⊎-elim}
+use Prim.Native.Nat.{ℕ, zero, suc, _+_, _<_}
+use native.Mathlib.Nat.{le-of-suc-le-suc, not-suc-le-zero, le-step, lt-suc-self, eq-or-lt-of-le}
+use native.Mathlib.Numerals.{add-one}
+use Rattle.lists.specs.Places.{every}
+
+pub both-true : (a b : Bool) → (a && b) ≡ true → (a ≡ true) × (b ≡ true)
+both-true true b h = (refl, h)
+both-true false b h = absurd (false≢true h)
+
+pub both : (a b : Bool) → a ≡ true → b ≡ true → (a && b) ≡ true
+both true b p q = q
+both false b p q = p
+
+pub every-next : (f : ℕ → Bool) (n : ℕ) → every f (n + 1) ≡ (every f n && f n)
+unfolding every
+every-next f n = rw add-one refl
+
+pub every-at : (f : ℕ → Bool) (n : ℕ) → every f n ≡ true → (i : ℕ) → i < n → f i ≡ true
+unfolding every
+every-at f zero h i l = absurd (not-suc-le-zero l)
+every-at f (suc n) h i l =
+    let hs = both-true (every f n) (f n) h in
+    ⊎-elim (λ (e : i ≡ n). ap f e ∙ hs .1) (λ (m : i < n). every-at f n (hs .0) i m) (eq-or-lt-of-le (le-of-suc-le-suc l))
+
+pub every-of : (f : ℕ → Bool) (n : ℕ) → ((i : ℕ) → i < n → f i ≡ true) → every f n ≡ true
+unfolding every
+every-of f zero h = refl
+every-of f (suc n) h = both (every f n) (f n) (every-of f n (λ i l. h i (le-step l))) (h n (lt-suc-self n))

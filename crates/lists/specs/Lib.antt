@@ -1,0 +1,2 @@
+-- The definitions of `lists`: finite sums, lists by place, and tests of every place.
+pub mod Places
