@@ -1,6 +1,6 @@
 -- The theory of `field`: it knows the definitions of specs/ and no code.
 pub mod Modular
-pub mod Maximum
+pub mod Ranges
 pub mod Powers
 pub mod Reduction
 pub mod PrimeTable

@@ -2,4 +2,5 @@
 pub mod Sums
 pub mod Tabs
 pub mod Tests
+pub mod Parts
 pub mod Overwrite

@@ -1,20 +1,22 @@
 -- A loop that writes a list in place, from the front. `Written n f e j xs`: the list e, of n places, has had its first j places
--- overwritten by f 0, .., f (j - 1), which gives xs. Four laws serve every such loop:
+-- overwritten by f 0, .., f (j - 1), which gives xs. Five laws serve every such loop:
 --     written-none     before the first turn
 --     written-next     a turn that sets place j to f j
+--     written-part     a turn that overwrites the l places from j on, as a part that was lent
 --     unwritten        what a turn reads at place j, or further on, is as at entry
 --     written-all      after the last turn the list is `tab n f`
 -- Assumes nothing.
 use mathlib.Core.Path.{_≡_, refl, sym, ap, ap₂, _∙_}
-use mathlib.Core.List.{List, _∷_, _++_, append-nil}
+use mathlib.Core.List.{List, _∷_, _++_, append-nil, append-assoc}
 use Prim.Native.Nat.{ℕ, suc, _+_, _-_, _≤_, _<_}
-use native.Mathlib.Nat.{le-of-lt}
+use native.Mathlib.Nat.{le-of-lt, add-sub-cancel-left}
 use native.Mathlib.Numerals.{add-one}
 use native.Mathlib.Omega.{arith}
-use lib.ListN.{length, getD, set, take, drop, length-set, drop-of-length-le}
-use lib.Seq.{take-suc, drop-cons, set-at, length-take-le, take-all, append-snoc, getD-drop, getD-append-add}
+use lib.ListN.{length, getD, set, take, drop, length-set, length-append, length-drop, drop-of-length-le}
+use lib.Seq.{take-suc, drop-cons, set-at, length-take-le, take-all, take-add, take-at, drop-at, drop-drop, append-snoc, getD-drop, getD-append-add}
 use Rattle.lists.specs.Places.{tab, at}
-use Rattle.lists.proofs.Tabs.{tab-length, tab-at}
+use Rattle.lists.proofs.Tabs.{tab-length, tab-at, is-tab}
+use Rattle.lists.proofs.Parts.{part-length, part-at}
 
 pub record Written (n : ℕ) (f : ℕ → ℕ) (e : List ℕ) (j : ℕ) (xs : List ℕ) : Type 0 where
   pub within : j ≤ n
@@ -48,6 +50,33 @@ written-next {n} {f} {e} {xs} {j} v w h hv =
         rw (add-one, drop-cons e j 0 inE, take-suc r j 0 inR)
         (set-at (take j r) (getD e j 0) (drop (suc j) e) (getD r j 0) j (length-take-le j r (le-of-lt inR))
         ∙ sym (append-snoc (take j r) (getD r j 0) (drop (suc j) e)))
+
+pub written-part : {n : ℕ} {f : ℕ → ℕ} {e xs : List ℕ} {j : ℕ} (l : ℕ) (ys : List ℕ) → Written n f e j xs → j + l ≤ n → ys ≡ tab l (λ k. f (j + k)) → Written n f e (j + l) (take j xs ++ (ys ++ drop (j + l - j) (drop j xs)))
+written-part {n} {f} {e} {xs} {j} l ys w h hy =
+    rw add-sub-cancel-left record {
+      within = h;
+      entry = w .entry;
+      same = ap length list ∙ whole;
+      list = list }
+  where
+    r : List ℕ
+    r = tab n f
+    front : length (take j r) ≡ j
+    front = length-take-le j r (rw tab-length (w .within))
+    next : take l (drop j r) ≡ tab l (λ k. f (j + k))
+    next =
+        is-tab (take l (drop j r)) l (λ k. f (j + k)) 0 (part-length r j l (rw tab-length h))
+        (λ k hk. part-at r j l k hk ∙ tab-at n f 0 (j + k) (omega arith))
+    list : take j xs ++ (ys ++ drop l (drop j xs)) ≡ take (j + l) r ++ drop (j + l) e
+    list =
+        ap₂ (λ (a b : List ℕ). a ++ (ys ++ drop l b))
+        (ap (take j) (w .list) ∙ take-at (take j r) (drop j e) j front)
+        (ap (drop j) (w .list) ∙ drop-at (take j r) (drop j e) j front)
+        ∙ ap₂ (λ (a b : List ℕ). take j r ++ (a ++ b)) (hy ∙ sym next) (drop-drop l j e)
+        ∙ sym (append-assoc (take j r) (take l (drop j r)) (drop (j + l) e))
+        ∙ ap (λ (a : List ℕ). a ++ drop (j + l) e) (sym (take-add j l r))
+    whole : length (take (j + l) r ++ drop (j + l) e) ≡ n
+    whole = simp (length-append, length-drop) (omega (arith, length-take-le (j + l) r (rw tab-length h), w .entry))
 
 pub unwritten : {n : ℕ} {f : ℕ → ℕ} {e xs : List ℕ} {j : ℕ} → Written n f e j xs → (i : ℕ) → j ≤ i → at xs i ≡ at e i
 unwritten {n} {f} {e} {xs} {j} w i h =

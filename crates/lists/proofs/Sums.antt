@@ -3,10 +3,11 @@
 --     sum-ext                   equal terms make equal sums
 --     sum-add, sum-mul          the sum of sums; a common factor on the right
 --     sum-append, sum-blocks    a sum cut in two; a sum over b * l places by blocks of l
+--     sum-mono                  more terms make no smaller sum
 --     sum-le                    a bound of each term bounds the sum
 -- Assumes nothing.
 use mathlib.Core.Path.{_≡_, refl, sym, ap, ap₂, _∙_}
-use Prim.Native.Nat.{ℕ, zero, suc, _+_, _*_, _≤_, _<_}
+use Prim.Native.Nat.{ℕ, zero, suc, _+_, _-_, _*_, _≤_, _<_}
 use native.Mathlib.Nat.{add-zero, add-suc, le-step, lt-suc-self, zero-mul, suc-mul, mul-zero}
 use native.Mathlib.Numerals.{add-one}
 use native.Mathlib.Omega.{arith}
@@ -42,6 +43,11 @@ pub sum-append : (f : ℕ → ℕ) (a b : ℕ) → sum f (a + b) ≡ sum f a + s
 unfolding sum
 sum-append f a zero = rw add-zero (sym (add-zero (sum f a)))
 sum-append f a (suc b) = rw add-suc (omega (arith, sum-append f a b))
+
+pub sum-mono : (f : ℕ → ℕ) {a b : ℕ} → a ≤ b → sum f a ≤ sum f b
+sum-mono f {a} {b} h =
+    let e : a + (b - a) ≡ b = omega arith in
+    omega (arith, sum-append f a (b - a), ap (sum f) e)
 
 pub sum-blocks : (f : ℕ → ℕ) (b l : ℕ) → sum f (b * l) ≡ sum (λ i. sum (λ j. f (i * l + j)) l) b
 unfolding sum

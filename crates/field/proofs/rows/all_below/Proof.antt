@@ -10,7 +10,7 @@ use lib.ListN.{length, getD}
 use borrow.Author.Tests.{lt-ltb}
 use Rattle.lists.specs.Places.{every}
 use Rattle.lists.proofs.Tests.{every-next}
-use Rattle.field.proofs.Maximum.{below-joined}
+use Rattle.field.proofs.Ranges.{below-joined}
 use Rattle.field.proofs.rows.all_below.Statement.{statement}
 use Rattle.field.proofs.rows.all_below.Tie as tie
 

@@ -1,0 +1,52 @@
+-- Bytes below p.
+--     below-joined       a maximum is below a bound exactly when both numbers are
+--     residues-of        the test `allBelow` says `Residues`
+--     residues-tab, residues-snoc       lists of residues: by place, and with one residue more at the end
+-- Assumes nothing.
+use mathlib.Core.Path.{_≡_, refl, sym, ap₂, _∙_}
+use mathlib.Core.Bool.{Bool, true, false, _&&_}
+use mathlib.Core.List.{List, [], _∷_, _++_}
+use Prim.Native.Nat.{ℕ, zero, suc, max, _≤_, _<_}
+use native.Mathlib.Decide.{decLt}
+use native.Mathlib.Omega.{arith}
+use lib.Dec.{ltb}
+use lib.ListN.{length}
+use Rattle.lists.specs.Places.{every, tab, at}
+use Rattle.lists.proofs.Tests.{every-at}
+use Rattle.lists.proofs.Tabs.{tab-length, tab-at}
+use Rattle.lists.proofs.Parts.{at-past}
+use Rattle.field.specs.Residues.{Residues}
+use Rattle.field.specs.Rows.{allBelow}
+use borrow.Author.Tests.{lt-ltb, le-ltb, ltb-true}
+
+and-false : (a : Bool) → (a && false) ≡ false
+and-false true = refl
+and-false false = refl
+
+pub below-joined : (a b r q : ℕ) → r ≡ max a b → ltb r q ≡ (ltb a q && ltb b q)
+below-joined a b r q e = elim (decLt a q) [
+  | yes ha ↦
+      elim (decLt b q) [
+        | yes hb ↦ lt-ltb r q (omega arith) ∙ sym (ap₂ _&&_ (lt-ltb a q ha) (lt-ltb b q hb))
+        | no hb ↦ le-ltb r q (omega arith) ∙ sym (ap₂ _&&_ (lt-ltb a q ha) (le-ltb b q (omega arith)))
+      ]
+  | no ha ↦
+      let l : q ≤ a = omega arith in
+      le-ltb r q (omega arith) ∙ sym (ap₂ _&&_ (le-ltb a q l) refl)
+]
+
+pub residues-of : (p : ℕ) (xs : List ℕ) → 0 < p → allBelow p xs ≡ true → Residues p xs
+residues-of p xs pos h i = elim (decLt i (length xs)) [
+      yes l ↦ ltb-true (at xs i) p (every-at (λ j. ltb (at xs j) p) (length xs) h i l)
+    | no l ↦ rw (at-past xs i (omega arith)) pos ]
+
+pub residues-tab : (p n : ℕ) (f : ℕ → ℕ) → 0 < p → ((i : ℕ) → i < n → f i < p) → Residues p (tab n f)
+residues-tab p n f pos h i = elim (decLt i n) [
+      yes l ↦ rw (tab-at n f 0 i l) (h i l)
+    | no l ↦ rw (at-past (tab n f) i (rw tab-length (omega arith))) pos ]
+
+pub residues-snoc : (p : ℕ) (xs : List ℕ) (y : ℕ) → 0 < p → y < p → Residues p xs → Residues p (xs ++ (y ∷ []))
+residues-snoc p [] y pos hy h zero = hy
+residues-snoc p [] y pos hy h (suc i) = pos
+residues-snoc p (x ∷ xs) y pos hy h zero = h zero
+residues-snoc p (x ∷ xs) y pos hy h (suc i) = residues-snoc p xs y pos hy (λ k. h (suc k)) i

@@ -1,0 +1,7 @@
+-- The theory of `plan`: it knows the definitions of specs/ and no code.
+pub mod Bounds
+pub mod Refusals
+pub mod Digits
+pub mod Chains
+pub mod Blocks
+pub mod Reproduction

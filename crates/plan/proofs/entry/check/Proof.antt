@@ -1,0 +1,41 @@
+-- `plan::entry::check` meets its contract: the constructor's refusal, or the parts' where it has none. Assumes nothing.
+use mathlib.Core.Path.{_≡_, sym, _∙_}
+use mathlib.Core.Bool.{true}
+use mathlib.Core.List.{[]}
+use Prim.Native.Nat.{ℕ, zero, suc, _<_}
+use native.Mathlib.Omega.{arith}
+use borrow.Author.Needs.{needs}
+use Rattle.plan.proofs.Refusals.{accepted-within, call-numbers, call-parts, call-passed}
+use Rattle.plan.proofs.entry.check.Statement.{statement}
+use Rattle.plan.proofs.entry.check.Tie as tie
+
+-- a refusal that is 0 passes on to the call's own causes, of which there are none
+decided : (k : ℕ) {x y : ℕ} → k ≡ x → (0 < k → k ≡ y) → (0 ≡ x → y ≡ 0) → k ≡ y
+decided zero e refused passed = sym (passed e)
+decided (suc k) e refused passed = refused (omega arith)
+
+new-requires : tie.Need-new-requires
+new-requires c κs = search needs
+
+enum-known-k : tie.Need-enum-known-k
+enum-known-k c = search needs
+
+enum-known-plan : tie.Need-enum-known-plan
+enum-known-plan c = search needs
+
+part-refusal-requires : tie.Need-part-refusal-requires
+part-refusal-requires c κs = accepted-within (c .before .before .before .before .before .before .before .args .p) (c .before .before .before .before .before .before .before .args .s) (c .before .before .before .before .before .before .before .args .n) (c .before .before .before .before .before .before .before .args .m) (c .before .before .before .before .before .before .before .args .t) (c .before .plan .given .0 .0) (sym (c .before .before .before .new .ensures) ∙ c .before .plan .given .1) .2
+
+returns : tie.Need-returns
+returns c = call-numbers (c .before .before .before .before .before .before .before .args .p) (c .before .before .before .before .before .before .before .args .s) (c .before .before .before .before .before .before .before .args .n) (c .before .before .before .before .before .before .before .args .m) (c .before .before .before .before .before .before .before .args .t) (c .before .before .before .before .before .before .before .args .weights .now) (c .before .before .before .before .before .before .before .args .tables .now) (c .before .before .before .before .before .before .before .args .d .now) (λ _. true) (λ _. []) (c .before .k .given .0 .0) (sym (c .before .before .before .new .ensures) ∙ c .before .k .given .1) .0
+
+returns-2 : tie.Need-returns-2
+returns-2 c =
+    decided (c .part-refusal .result) (c .part-refusal .ensures)
+    (call-parts (c .before .before .before .before .before .before .before .before .args .p) (c .before .before .before .before .before .before .before .before .args .s) (c .before .before .before .before .before .before .before .before .args .n) (c .before .before .before .before .before .before .before .before .args .m) (c .before .before .before .before .before .before .before .before .args .t) (c .before .before .before .before .before .before .before .before .args .weights .now) (c .before .before .before .before .before .before .before .before .args .tables .now) (c .before .before .before .before .before .before .before .before .args .d .now) (λ _. true) (λ _. []) (c .before .before .plan .given .0 .0) (sym (c .before .before .before .before .new .ensures) ∙ c .before .before .plan .given .1) (c .part-refusal .result) (c .part-refusal .ensures))
+    (λ e. call-passed (c .before .before .before .before .before .before .before .before .args .p) (c .before .before .before .before .before .before .before .before .args .s) (c .before .before .before .before .before .before .before .before .args .n) (c .before .before .before .before .before .before .before .before .args .m) (c .before .before .before .before .before .before .before .before .args .t) (c .before .before .before .before .before .before .before .before .args .weights .now) (c .before .before .before .before .before .before .before .before .args .tables .now) (c .before .before .before .before .before .before .before .before .args .d .now) (λ _. true) (λ _. []) (c .before .before .plan .given .0 .0) (sym (c .before .before .before .before .new .ensures) ∙ c .before .before .plan .given .1) e)
+
+pub check-spec : {M : Type 1} → statement M
+check-spec =
+    tie.close
+    (tie.spec new-requires enum-known-k enum-known-plan part-refusal-requires returns returns-2)

@@ -1,0 +1,90 @@
+-- `plan::numbers::Plan::new` meets its contract: each return is the first cause whose condition the tests on the way have shown.
+-- Assumes nothing.
+use mathlib.Core.Path.{_≡_, sym, _∙_}
+use mathlib.Core.Bool.{true, false}
+use Prim.Native.Nat.{_+_, _≤_}
+use native.Mathlib.Nat.{mul-le-mul}
+use native.Mathlib.Omega.{arith}
+use borrow.Author.Tests.{not-true, not-false}
+use Rattle.field.specs.Primes.{oddPrime}
+use Rattle.field.proofs.PrimeTable.{oddPrime-means}
+use Rattle.plan.proofs.Refusals.{refused-prime, refused-radix, refused-range, accepts}
+use borrow.Author.Needs.{needs}
+use Rattle.plan.proofs.numbers.Plan.new.Statement.{statement}
+use Rattle.plan.proofs.numbers.Plan.new.Tie as tie
+
+is-odd-prime-requires : tie.Need-is-odd-prime-requires
+is-odd-prime-requires c κs = search needs
+
+returns : tie.Need-returns
+returns c = refused-prime (c .before .before .args .p) (c .before .before .args .s) (c .before .before .args .n) (c .before .before .args .m) (c .before .before .args .t) (sym (c .before .is-odd-prime .ensures) ∙ not-true _ (c .if1 .taken))
+
+returns-2 : tie.Need-returns-2
+returns-2 c = refused-radix (c .before .before .before .args .p) (c .before .before .before .args .s) (c .before .before .before .args .n) (c .before .before .before .args .m) (c .before .before .before .args .t) (sym (c .before .before .is-odd-prime .ensures) ∙ not-false _ (c .before .if1 .left)) (λ low high. omega arith)
+
+returns-3 : tie.Need-returns-3
+returns-3 c = refused-radix (c .before .before .before .before .args .p) (c .before .before .before .before .args .s) (c .before .before .before .before .args .n) (c .before .before .before .before .args .m) (c .before .before .before .before .args .t) (sym (c .before .before .before .is-odd-prime .ensures) ∙ not-false _ (c .before .before .if1 .left)) (λ low high. omega arith)
+
+returns-4 : tie.Need-returns-4
+returns-4 c = refused-range (c .before .before .before .before .before .args .p) (c .before .before .before .before .before .args .s) (c .before .before .before .before .before .args .n) (c .before .before .before .before .before .args .m) (c .before .before .before .before .before .args .t) (sym (c .before .before .before .before .is-odd-prime .ensures) ∙ not-false _ (c .before .before .before .if1 .left)) (omega arith) (omega arith) (λ h1 h2 h3 h4 h5. omega arith)
+
+returns-5 : tie.Need-returns-5
+returns-5 c = refused-range (c .before .before .before .before .before .before .args .p) (c .before .before .before .before .before .before .args .s) (c .before .before .before .before .before .before .args .n) (c .before .before .before .before .before .before .args .m) (c .before .before .before .before .before .before .args .t) (sym (c .before .before .before .before .before .is-odd-prime .ensures) ∙ not-false _ (c .before .before .before .before .if1 .left)) (omega arith) (omega arith) (λ h1 h2 h3 h4 h5. omega arith)
+
+returns-6 : tie.Need-returns-6
+returns-6 c = refused-range (c .before .before .before .before .before .before .before .args .p) (c .before .before .before .before .before .before .before .args .s) (c .before .before .before .before .before .before .before .args .n) (c .before .before .before .before .before .before .before .args .m) (c .before .before .before .before .before .before .before .args .t) (sym (c .before .before .before .before .before .before .is-odd-prime .ensures) ∙ not-false _ (c .before .before .before .before .before .if1 .left)) (omega arith) (omega arith) (λ h1 h2 h3 h4 h5. omega arith)
+
+returns-7 : tie.Need-returns-7
+returns-7 c = refused-range (c .before .before .before .before .before .before .before .before .args .p) (c .before .before .before .before .before .before .before .before .args .s) (c .before .before .before .before .before .before .before .before .args .n) (c .before .before .before .before .before .before .before .before .args .m) (c .before .before .before .before .before .before .before .before .args .t) (sym (c .before .before .before .before .before .before .before .is-odd-prime .ensures) ∙ not-false _ (c .before .before .before .before .before .before .if1 .left)) (omega arith) (omega arith) (λ h1 h2 h3 h4 h5. omega arith)
+
+add-if8 : tie.Need-add-if8
+add-if8 c = search needs
+
+add-if8-2 : tie.Need-add-if8-2
+add-if8-2 c = search needs
+
+mul-if8 : tie.Need-mul-if8
+mul-if8 c =
+    let a : c .before .before .before .before .before .before .before .before .args .t + 1 ≤ 33 = omega arith in
+    let b : c .before .before .before .before .before .before .before .before .args .n + c .before .before .before .before .before .before .before .before .args .m ≤ 64 = omega arith in
+    omega (arith, mul-le-mul a b)
+
+returns-8 : tie.Need-returns-8
+returns-8 c = refused-range (c .before .before .before .before .before .before .before .before .before .args .p) (c .before .before .before .before .before .before .before .before .before .args .s) (c .before .before .before .before .before .before .before .before .before .args .n) (c .before .before .before .before .before .before .before .before .before .args .m) (c .before .before .before .before .before .before .before .before .before .args .t) (sym (c .before .before .before .before .before .before .before .before .is-odd-prime .ensures) ∙ not-false _ (c .before .before .before .before .before .before .before .if1 .left)) (omega arith) (omega arith) (λ h1 h2 h3 h4 h5. omega arith)
+
+power-requires : tie.Need-power-requires
+power-requires c κs = (omega arith, omega (arith, oddPrime-means (c .before .before .before .before .before .before .before .before .before .args .p) .0 (sym (c .before .before .before .before .before .before .before .before .is-odd-prime .ensures) ∙ not-false _ (c .before .before .before .before .before .before .before .if1 .left)) .1))
+
+returns-9 : tie.Need-returns-9
+returns-9 c = refused-range (c .before .before .before .before .before .before .before .before .before .before .before .args .p) (c .before .before .before .before .before .before .before .before .before .before .before .args .s) (c .before .before .before .before .before .before .before .before .before .before .before .args .n) (c .before .before .before .before .before .before .before .before .before .before .before .args .m) (c .before .before .before .before .before .before .before .before .before .before .before .args .t) (sym (c .before .before .before .before .before .before .before .before .before .before .is-odd-prime .ensures) ∙ not-false _ (c .before .before .before .before .before .before .before .before .before .if1 .left)) (omega arith) (omega arith) (λ h1 h2 h3 h4 h5. omega arith)
+
+cast-t11 : tie.Need-cast-t11
+cast-t11 c = omega (arith, oddPrime-means (c .before .before .before .before .before .before .before .before .before .before .before .args .p) .0 (sym (c .before .before .before .before .before .before .before .before .before .before .is-odd-prime .ensures) ∙ not-false _ (c .before .before .before .before .before .before .before .before .before .if1 .left)) .1)
+
+cast-t12 : tie.Need-cast-t12
+cast-t12 c = omega (arith, oddPrime-means (c .before .before .before .before .before .before .before .before .before .before .before .args .p) .0 (sym (c .before .before .before .before .before .before .before .before .before .before .is-odd-prime .ensures) ∙ not-false _ (c .before .before .before .before .before .before .before .before .before .if1 .left)) .1)
+
+returns-10 : tie.Need-returns-10
+returns-10 c = accepts (c .before .before .before .before .before .before .before .before .before .before .before .args .p) (c .before .before .before .before .before .before .before .before .before .before .before .args .s) (c .before .before .before .before .before .before .before .before .before .before .before .args .n) (c .before .before .before .before .before .before .before .before .before .before .before .args .m) (c .before .before .before .before .before .before .before .before .before .before .before .args .t) (sym (c .before .before .before .before .before .before .before .before .before .before .is-odd-prime .ensures) ∙ not-false _ (c .before .before .before .before .before .before .before .before .before .if1 .left)) (omega arith) (omega arith) (omega arith) (omega arith) (omega arith) (omega arith) (omega arith)
+
+pub new-spec : {M : Type 1} → statement M
+new-spec =
+    tie.close
+    (tie.spec
+    is-odd-prime-requires
+    returns
+    returns-2
+    returns-3
+    returns-4
+    returns-5
+    returns-6
+    returns-7
+    add-if8
+    add-if8-2
+    mul-if8
+    returns-8
+    power-requires
+    returns-9
+    cast-t11
+    cast-t12
+    returns-10)
