@@ -37,13 +37,15 @@ below-joined a b r q e = elim (decLt a q) [
 
 pub residues-of : (p : ℕ) (xs : List ℕ) → 0 < p → allBelow p xs ≡ true → Residues p xs
 residues-of p xs pos h i = elim (decLt i (length xs)) [
-      yes l ↦ ltb-true (at xs i) p (every-at (λ j. ltb (at xs j) p) (length xs) h i l)
-    | no l ↦ rw (at-past xs i (omega arith)) pos ]
+  | yes l ↦ ltb-true (at xs i) p (every-at (λ j. ltb (at xs j) p) (length xs) h i l)
+  | no l ↦ rw (at-past xs i (omega arith)) pos
+]
 
 pub residues-tab : (p n : ℕ) (f : ℕ → ℕ) → 0 < p → ((i : ℕ) → i < n → f i < p) → Residues p (tab n f)
 residues-tab p n f pos h i = elim (decLt i n) [
-      yes l ↦ rw (tab-at n f 0 i l) (h i l)
-    | no l ↦ rw (at-past (tab n f) i (rw tab-length (omega arith))) pos ]
+  | yes l ↦ rw (tab-at n f 0 i l) (h i l)
+  | no l ↦ rw (at-past (tab n f) i (rw tab-length (omega arith))) pos
+]
 
 pub residues-snoc : (p : ℕ) (xs : List ℕ) (y : ℕ) → 0 < p → y < p → Residues p xs → Residues p (xs ++ (y ∷ []))
 residues-snoc p [] y pos hy h zero = hy

@@ -57,16 +57,20 @@ written-part {n} {f} {e} {xs} {j} l ys w h hy =
       within = h;
       entry = w .entry;
       same = ap length list ∙ whole;
-      list = list }
+      list = list;
+    }
   where
     r : List ℕ
     r = tab n f
+
     front : length (take j r) ≡ j
     front = length-take-le j r (rw tab-length (w .within))
+
     next : take l (drop j r) ≡ tab l (λ k. f (j + k))
     next =
         is-tab (take l (drop j r)) l (λ k. f (j + k)) 0 (part-length r j l (rw tab-length h))
         (λ k hk. part-at r j l k hk ∙ tab-at n f 0 (j + k) (omega arith))
+
     list : take j xs ++ (ys ++ drop l (drop j xs)) ≡ take (j + l) r ++ drop (j + l) e
     list =
         ap₂ (λ (a b : List ℕ). a ++ (ys ++ drop l b))
@@ -75,6 +79,7 @@ written-part {n} {f} {e} {xs} {j} l ys w h hy =
         ∙ ap₂ (λ (a b : List ℕ). take j r ++ (a ++ b)) (hy ∙ sym next) (drop-drop l j e)
         ∙ sym (append-assoc (take j r) (take l (drop j r)) (drop (j + l) e))
         ∙ ap (λ (a : List ℕ). a ++ drop (j + l) e) (sym (take-add j l r))
+
     whole : length (take (j + l) r ++ drop (j + l) e) ≡ n
     whole = simp (length-append, length-drop) (omega (arith, length-take-le (j + l) r (rw tab-length h), w .entry))
 

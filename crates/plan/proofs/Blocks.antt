@@ -79,6 +79,7 @@ block-turn P d xs {e} {row} {ys} {begin} l b g w hbegin hl hb hx hd hg hy =
   where
     room : begin + l ≤ P .t * variables P
     room = block-room P begin l b hbegin hl hb
+
     total : dot (take (begin + l - begin) (drop begin d)) xs (length (take (begin + l - begin) (drop begin d))) ≡ weighted P d xs b
     total =
         rw (cut-length d begin l (rw hd room), add-sub-cancel-left, hl, hbegin) (weighted-of-part P d xs b)

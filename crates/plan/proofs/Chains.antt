@@ -68,8 +68,8 @@ table-room P T k hT h = omega (arith, mul-le-mul-right (P .p) h)
 -- in the form in which the call of `link` leaves it
 pub link-of-parts : (P : Plan) (w T xs : List ℕ) (begin k : ℕ) → begin ≡ linkStart P k → begin + (P .n + k) ≤ length w → 0 < P .p
     → at (take (k * P .p + P .p - k * P .p) (drop (k * P .p) T))
-        (dot (take (begin + (P .n + k) - begin) (drop begin w)) xs (length (take (begin + (P .n + k) - begin) (drop begin w))) % P .p)
-      ≡ link P w T xs k
+    (dot (take (begin + (P .n + k) - begin) (drop begin w)) xs (length (take (begin + (P .n + k) - begin) (drop begin w))) % P .p)
+    ≡ link P w T xs k
 unfolding link
 link-of-parts P w T xs begin k hbegin room pos =
     rw (cut-length w begin (P .n + k) room, add-sub-cancel-left (k * P .p) (P .p), add-sub-cancel-left begin (P .n + k), hbegin)
@@ -96,7 +96,8 @@ linked-none P w T i digits e hd he =
       within = omega arith;
       begins = sym (sum-zero (λ j. P .n + j));
       size = length-append digits (drop (P .n) e) ∙ rw length-drop (omega (arith, count));
-      done = ap (λ (j : ℕ). take j (digits ++ drop (P .n) e)) (add-zero (P .n)) ∙ take-at digits (drop (P .n) e) (P .n) count ∙ hd }
+      done = ap (λ (j : ℕ). take j (digits ++ drop (P .n) e)) (add-zero (P .n)) ∙ take-at digits (drop (P .n) e) (P .n) count ∙ hd;
+    }
   where
     count : length digits ≡ P .n
     count = ap length hd ∙ tab-length (P .n) (digit P i)
@@ -110,10 +111,11 @@ linked-next {P} {w} {T} {i} {k} {begin} {x} v l h hv =
       begins = ap (λ (a : ℕ). a + (P .n + k)) (l .begins) ∙ sym (sum-next (λ j. P .n + j) k);
       size = length-set x (P .n + k) v ∙ l .size;
       done =
-        ap (λ (j : ℕ). take j (set x (P .n + k) v)) (ap (λ (j : ℕ). P .n + j) (add-one k) ∙ add-suc (P .n) k)
-        ∙ take-suc-set x (P .n + k) v (omega arith)
-        ∙ ap₂ (λ (a : List ℕ) (b : ℕ). a ++ (b ∷ [])) (l .done) hv
-        ∙ ap (chain P w T i) (sym (add-one k)) }
+          ap (λ (j : ℕ). take j (set x (P .n + k) v)) (ap (λ (j : ℕ). P .n + j) (add-one k) ∙ add-suc (P .n) k)
+          ∙ take-suc-set x (P .n + k) v (omega arith)
+          ∙ ap₂ (λ (a : List ℕ) (b : ℕ). a ++ (b ∷ [])) (l .done) hv
+          ∙ ap (chain P w T i) (sym (add-one k));
+    }
 
 pub linked-all : {P : Plan} {w T : List ℕ} {i k begin : ℕ} {x : List ℕ} → Linked P w T i k begin x → P .m ≤ k → x ≡ values P w T i
 unfolding values

@@ -2,7 +2,6 @@
 --     first-append                          two lists of causes in turn: the first list's refusal, or the second's where it has none
 --     first-refused, first-passed           the same by the first list's refusal
 --     result-refused                        a refusal leaves a lent slice as it was
---     refused-number, accepted-within       what the constructor's answer says
 --     refused-prime, refused-radix, refused-range, accepts       the constructor's answer from the facts about its numbers
 --     within-of                             a plan that meets none of causes 1 to 3 is within its limits
 --     call-numbers, call-parts, call-passed       a call's refusal: by its numbers, by its parts, or by its own causes
@@ -46,6 +45,7 @@ first-append (cause ∷ causes) b h = met (cause .1) (cause .0) (first (causes +
     positive : (k j : ℕ) → 0 < k → k ≡ orElse k j
     positive zero j l = omega arith
     positive (suc k) j l = refl
+
     met : (c : Bool) (k x y : ℕ) → 0 < k → x ≡ orElse y (first b) → cond c k x ≡ orElse (cond c k y) (first b)
     met true k x y l e = positive k (first b) l
     met false k x y l e = e
@@ -128,17 +128,20 @@ within-of p s n m t h =
       variable-limit = range .1;
       product-limit = range .2;
       column-limit = range .3;
-      entry-limit = range .4 }
+      entry-limit = range .4;
+    }
 
 -- what the constructor's answer says
-pub refused-number : (p s n m t k : ℕ) → checked p s n m t ≡ Refused k → (first (numberCauses p s n m t) ≡ k) × (0 < k)
+refused-number : (p s n m t k : ℕ) → checked p s n m t ≡ Refused k → (first (numberCauses p s n m t) ≡ k) × (0 < k)
+unfolding checked
 refused-number p s n m t k e = number (first (numberCauses p s n m t)) (plan p s n m t) k e
   where
     number : (j : ℕ) (P : Plan) (k : ℕ) → answer j P ≡ Refused k → (j ≡ k) × (0 < k)
     number zero P k e = let z : _≡_ {A = ℕ} 0 1 = cc in absurd (omega arith)
     number (suc j) P k e = let same : suc j ≡ k = cc in (same, omega arith)
 
-pub accepted-within : (p s n m t : ℕ) (Q : Plan) → checked p s n m t ≡ Accepted Q → (first (numberCauses p s n m t) ≡ 0) × (plan p s n m t ≡ Q) × Within Q
+accepted-within : (p s n m t : ℕ) (Q : Plan) → checked p s n m t ≡ Accepted Q → (first (numberCauses p s n m t) ≡ 0) × (plan p s n m t ≡ Q) × Within Q
+unfolding checked
 accepted-within p s n m t Q e =
     let a = same (first (numberCauses p s n m t)) (plan p s n m t) e in
     (a .0, a .1, subst Within (a .1) (within-of p s n m t (a .0)))
@@ -150,17 +153,21 @@ accepted-within p s n m t Q e =
 -- the constructor's answers
 module _ (p s n m t : ℕ) where
   pub refused-prime : oddPrime p ≡ false → Refused 1 ≡ checked p s n m t
+  unfolding checked
   refused-prime h = rw h
 
   module _ (prime : oddPrime p ≡ true) where
     pub refused-radix : (2 ≤ s → s ≤ p → ⊥) → Refused 2 ≡ checked p s n m t
+    unfolding checked
     refused-radix h = rw (prime, bad-radix p s h)
 
     module _ (low : 2 ≤ s) (high : s ≤ p) where
       pub refused-range : (1 ≤ n → n + m ≤ 64 → t ≤ 32 → (t + 1) * (n + m) ≤ 1024 → s ^ n ≤ 4096 → ⊥) → Refused 3 ≡ checked p s n m t
+      unfolding checked
       refused-range h = rw (prime, good-radix p s low high, out-of-range s n m t h)
 
       pub accepts : 1 ≤ n → n + m ≤ 64 → t ≤ 32 → (t + 1) * (n + m) ≤ 1024 → s ^ n ≤ 4096 → Accepted (plan p s n m t) ≡ checked p s n m t
+      unfolding checked
       accepts h1 h2 h3 h4 h5 = rw (prime, good-radix p s low high, in-range s n m t h1 h2 h3 h4 h5)
 
 pub lent-of : (P : Plan) (w T d : List ℕ) (own : Bool) → Within P → first (partCauses P w T d own) ≡ 0 → Lent P w T d × (own ≡ true)
@@ -173,19 +180,28 @@ lent-of P w T d own within h =
     let l1 = both-true (eqb (length w) (linkStart P (P .m))) (eqb (length T) (P .m * P .p) && eqb (length d) (P .t * variables P)) (fits .0) in
     let l2 = both-true (eqb (length T) (P .m * P .p)) (eqb (length d) (P .t * variables P)) (l1 .1) in
     let v1 = both-true (allBelow (P .p) w) (allBelow (P .p) T && allBelow (P .p) d) (not-false (valuesFit P w T d) (c5 .0)) in
-    let v2 = both-true (allBelow (P .p) T) (allBelow (P .p) d) (v1 .1) in
-    (record {
-      weights-length = eqb-true (length w) (linkStart P (P .m)) (l1 .0);
-      tables-length = eqb-true (length T) (P .m * P .p) (l2 .0);
-      products-length = eqb-true (length d) (P .t * variables P) (l2 .1);
-      weights-residues = residues-of (P .p) w pos (v1 .0);
-      tables-residues = residues-of (P .p) T pos (v2 .0);
-      products-residues = residues-of (P .p) d pos (v2 .1) },
-    fits .1)
+    let v2 = both-true (allBelow (P .p) T) (allBelow (P .p) d) (v1 .1) in (
+      record {
+        weights-length = eqb-true (length w) (linkStart P (P .m)) (l1 .0);
+        tables-length = eqb-true (length T) (P .m * P .p) (l2 .0);
+        products-length = eqb-true (length d) (P .t * variables P) (l2 .1);
+        weights-residues = residues-of (P .p) w pos (v1 .0);
+        tables-residues = residues-of (P .p) T pos (v2 .0);
+        products-residues = residues-of (P .p) d pos (v2 .1);
+      },
+      fits .1,
+    )
+
+pub call-plan : (p s n m t : ℕ) {Q : Plan} → checked p s n m t ≡ Accepted Q → plan p s n m t ≡ Q
+call-plan p s n m t {Q} e = accepted-within p s n m t Q e .1
+
+pub call-within : (p s n m t : ℕ) {Q : Plan} → checked p s n m t ≡ Accepted Q → Within Q
+call-within p s n m t {Q} e = accepted-within p s n m t Q e .2
 
 -- a call that is lent a plan: the constructor's refusal, then the parts', then the call's own causes
 module _ (p s n m t : ℕ) (w T d : List ℕ) (own : Plan → Bool) (rest : Plan → List (ℕ × Bool)) where
   pub call-numbers : (k : ℕ) → checked p s n m t ≡ Refused k → (k ≡ first (callCauses p s n m t w T d own rest)) × (0 < k)
+  unfolding callCauses
   call-numbers k e =
       let r = refused-number p s n m t k e in
       (first-refused (numberCauses p s n m t) (partCauses P w T d (own P) ++ rest P) k (omega arith) (r .0) (r .1), r .1)
@@ -194,23 +210,18 @@ module _ (p s n m t : ℕ) (w T d : List ℕ) (own : Plan → Bool) (rest : Plan
       P = plan p s n m t
 
   module _ (Q : Plan) (e : checked p s n m t ≡ Accepted Q) where
-    pub call-plan : plan p s n m t ≡ Q
-    call-plan = accepted-within p s n m t Q e .1
-
-    pub call-within : Within Q
-    call-within = accepted-within p s n m t Q e .2
-
     after-numbers : first (callCauses p s n m t w T d own rest) ≡ first (partCauses Q w T d (own Q) ++ rest Q)
+    unfolding callCauses
     after-numbers =
         first-passed (numberCauses p s n m t) (partCauses (plan p s n m t) w T d (own (plan p s n m t)) ++ rest (plan p s n m t))
         (omega arith) (accepted-within p s n m t Q e .0)
-        ∙ ap (λ (P : Plan). first (partCauses P w T d (own P) ++ rest P)) call-plan
+        ∙ ap (λ (P : Plan). first (partCauses P w T d (own P) ++ rest P)) (call-plan p s n m t e)
 
     pub call-parts : (k : ℕ) → k ≡ first (partCauses Q w T d (own Q)) → 0 < k → k ≡ first (callCauses p s n m t w T d own rest)
     call-parts k h pos = first-refused (partCauses Q w T d (own Q)) (rest Q) k (omega arith) (sym h) pos ∙ sym after-numbers
 
     pub call-lent : 0 ≡ first (partCauses Q w T d (own Q)) → Lent Q w T d × (own Q ≡ true)
-    call-lent h = lent-of Q w T d (own Q) call-within (sym h)
+    call-lent h = lent-of Q w T d (own Q) (call-within p s n m t e) (sym h)
 
     pub call-passed : 0 ≡ first (partCauses Q w T d (own Q)) → first (callCauses p s n m t w T d own rest) ≡ first (rest Q)
     call-passed h = after-numbers ∙ first-passed (partCauses Q w T d (own Q)) (rest Q) (omega arith) (sym h)

@@ -44,7 +44,7 @@ abbrev pub answer : ℕ → Plan → Checked
 answer zero P = Accepted P
 answer (suc k) P = Refused (suc k)
 
-abbrev pub checked : ℕ → ℕ → ℕ → ℕ → ℕ → Checked
+unfoldable pub checked : ℕ → ℕ → ℕ → ℕ → ℕ → Checked
 checked p s n m t = answer (first (numberCauses p s n m t)) (plan p s n m t)
 
 -- 01's number for each case of the constructor's answer

@@ -33,7 +33,7 @@ valuesFit P w T d = allBelow (P .p) w && (allBelow (P .p) T && allBelow (P .p) d
 abbrev pub partCauses : Plan → List ℕ → List ℕ → List ℕ → Bool → List (ℕ × Bool)
 partCauses P w T d own = (4, not (lengthsFit P w T d && own)) ∷ (5, not (valuesFit P w T d)) ∷ []
 
-abbrev pub callCauses : ℕ → ℕ → ℕ → ℕ → ℕ → List ℕ → List ℕ → List ℕ → (Plan → Bool) → (Plan → List (ℕ × Bool)) → List (ℕ × Bool)
+unfoldable pub callCauses : ℕ → ℕ → ℕ → ℕ → ℕ → List ℕ → List ℕ → List ℕ → (Plan → Bool) → (Plan → List (ℕ × Bool)) → List (ℕ × Bool)
 callCauses p s n m t w T d own rest =
     numberCauses p s n m t ++ (partCauses (plan p s n m t) w T d (own (plan p s n m t)) ++ rest (plan p s n m t))
 

@@ -1,13 +1,19 @@
 -- `plan::entry::check` meets its contract: the constructor's refusal, or the parts' where it has none. Assumes nothing.
 use mathlib.Core.Path.{_≡_, sym, _∙_}
-use mathlib.Core.Bool.{true}
-use mathlib.Core.List.{[]}
 use Prim.Native.Nat.{ℕ, zero, suc, _<_}
 use native.Mathlib.Omega.{arith}
 use borrow.Author.Needs.{needs}
-use Rattle.plan.proofs.Refusals.{accepted-within, call-numbers, call-parts, call-passed}
+use Rattle.plan.specs.Numbers.{checked}
+use Rattle.plan.specs.declared.numbers.Checked.the-variants.{Accepted, Refused}
+use Rattle.plan.proofs.Refusals.{call-within, call-numbers, call-parts, call-passed}
 use Rattle.plan.proofs.entry.check.Statement.{statement}
 use Rattle.plan.proofs.entry.check.Tie as tie
+
+refused : (c : tie.After-k) → checked (c .before .before .before .before .before .before .args .p) (c .before .before .before .before .before .before .args .s) (c .before .before .before .before .before .before .args .n) (c .before .before .before .before .before .before .args .m) (c .before .before .before .before .before .before .args .t) ≡ Refused (c .k .given .0 .0)
+refused c = sym (c .before .before .new .ensures) ∙ c .k .given .1
+
+accepted : (c : tie.After-plan) → checked (c .before .before .before .before .before .before .args .p) (c .before .before .before .before .before .before .args .s) (c .before .before .before .before .before .before .args .n) (c .before .before .before .before .before .before .args .m) (c .before .before .before .before .before .before .args .t) ≡ Accepted (c .plan .given .0 .0)
+accepted c = sym (c .before .before .new .ensures) ∙ c .plan .given .1
 
 -- a refusal that is 0 passes on to the call's own causes, of which there are none
 decided : (k : ℕ) {x y : ℕ} → k ≡ x → (0 < k → k ≡ y) → (0 ≡ x → y ≡ 0) → k ≡ y
@@ -24,16 +30,16 @@ enum-known-plan : tie.Need-enum-known-plan
 enum-known-plan c = search needs
 
 part-refusal-requires : tie.Need-part-refusal-requires
-part-refusal-requires c κs = accepted-within (c .before .before .before .before .before .before .before .args .p) (c .before .before .before .before .before .before .before .args .s) (c .before .before .before .before .before .before .before .args .n) (c .before .before .before .before .before .before .before .args .m) (c .before .before .before .before .before .before .before .args .t) (c .before .plan .given .0 .0) (sym (c .before .before .before .new .ensures) ∙ c .before .plan .given .1) .2
+part-refusal-requires c κs = call-within _ _ _ _ _ (accepted (c .before))
 
 returns : tie.Need-returns
-returns c = call-numbers (c .before .before .before .before .before .before .before .args .p) (c .before .before .before .before .before .before .before .args .s) (c .before .before .before .before .before .before .before .args .n) (c .before .before .before .before .before .before .before .args .m) (c .before .before .before .before .before .before .before .args .t) (c .before .before .before .before .before .before .before .args .weights .now) (c .before .before .before .before .before .before .before .args .tables .now) (c .before .before .before .before .before .before .before .args .d .now) (λ _. true) (λ _. []) (c .before .k .given .0 .0) (sym (c .before .before .before .new .ensures) ∙ c .before .k .given .1) .0
+returns c = call-numbers _ _ _ _ _ _ _ _ _ _ _ (refused (c .before)) .0
 
 returns-2 : tie.Need-returns-2
 returns-2 c =
     decided (c .part-refusal .result) (c .part-refusal .ensures)
-    (call-parts (c .before .before .before .before .before .before .before .before .args .p) (c .before .before .before .before .before .before .before .before .args .s) (c .before .before .before .before .before .before .before .before .args .n) (c .before .before .before .before .before .before .before .before .args .m) (c .before .before .before .before .before .before .before .before .args .t) (c .before .before .before .before .before .before .before .before .args .weights .now) (c .before .before .before .before .before .before .before .before .args .tables .now) (c .before .before .before .before .before .before .before .before .args .d .now) (λ _. true) (λ _. []) (c .before .before .plan .given .0 .0) (sym (c .before .before .before .before .new .ensures) ∙ c .before .before .plan .given .1) (c .part-refusal .result) (c .part-refusal .ensures))
-    (λ e. call-passed (c .before .before .before .before .before .before .before .before .args .p) (c .before .before .before .before .before .before .before .before .args .s) (c .before .before .before .before .before .before .before .before .args .n) (c .before .before .before .before .before .before .before .before .args .m) (c .before .before .before .before .before .before .before .before .args .t) (c .before .before .before .before .before .before .before .before .args .weights .now) (c .before .before .before .before .before .before .before .before .args .tables .now) (c .before .before .before .before .before .before .before .before .args .d .now) (λ _. true) (λ _. []) (c .before .before .plan .given .0 .0) (sym (c .before .before .before .before .new .ensures) ∙ c .before .before .plan .given .1) e)
+    (call-parts _ _ _ _ _ _ _ _ _ _ _ (accepted (c .before .before)) (c .part-refusal .result) (c .part-refusal .ensures))
+    (call-passed _ _ _ _ _ _ _ _ _ _ _ (accepted (c .before .before)))
 
 pub check-spec : {M : Type 1} → statement M
 check-spec =

@@ -72,10 +72,11 @@ loop-less : tie.Need-loop-less Inv-loop μ-loop
 loop-less c = omega arith
 
 loop-again : tie.Need-loop-again Inv-loop μ-loop
-loop-again c =
-    (block-turn (c .before .before .before .before .before .before .before .before .before .before .before .before .before .args .plan) (c .before .before .before .before .before .before .before .before .before .before .before .before .before .args .d .now) (c .before .before .before .before .before .before .before .before .before .before .before .before .before .args .x .now) (c .before .before .before .before .before .before .before .before .before .variables .result) (c .before .before .before .before .before .before .before .before .loop .b) (c .before .before .before .before .dot .result) (c .before .before .before .before .before .before .before .before .loop .inv .0) (c .before .before .before .before .before .before .before .before .loop .inv .1) (c .before .before .before .before .before .before .before .before .before .variables .ensures) (c .before .before .before .before .before .before .if1 .taken) (c .before .before .before .before .before .before .before .before .before .before .before .before .before .pre .1 .1 .0 .0) (c .before .before .before .before .before .before .before .before .before .before .before .before .before .pre .1 .0) (c .before .before .before .before .dot .ensures) (c .before .before .set-multiple .ensures),
-    omega (arith, c .before .before .before .before .before .before .before .before .before .variables .ensures, c .before .before .before .before .before .before .before .before .loop .inv .1),
-    omega arith)
+loop-again c = (
+  block-turn (c .before .before .before .before .before .before .before .before .before .before .before .before .before .args .plan) (c .before .before .before .before .before .before .before .before .before .before .before .before .before .args .d .now) (c .before .before .before .before .before .before .before .before .before .before .before .before .before .args .x .now) (c .before .before .before .before .before .before .before .before .before .variables .result) (c .before .before .before .before .before .before .before .before .loop .b) (c .before .before .before .before .dot .result) (c .before .before .before .before .before .before .before .before .loop .inv .0) (c .before .before .before .before .before .before .before .before .loop .inv .1) (c .before .before .before .before .before .before .before .before .before .variables .ensures) (c .before .before .before .before .before .before .if1 .taken) (c .before .before .before .before .before .before .before .before .before .before .before .before .before .pre .1 .1 .0 .0) (c .before .before .before .before .before .before .before .before .before .before .before .before .before .pre .1 .0) (c .before .before .before .before .dot .ensures) (c .before .before .set-multiple .ensures),
+  omega (arith, c .before .before .before .before .before .before .before .before .before .variables .ensures, c .before .before .before .before .before .before .before .before .loop .inv .1),
+  omega arith,
+)
 
 add-end-2 : tie.Need-add-end-2 Inv-loop μ-loop
 add-end-2 c = rw (last-room (c .before .before .before .before .before .before .before .args .plan) (c .before .before .loop .begin) (c .before .before .before .variables .result) (last-begin c) (c .before .before .before .variables .ensures)) (omega arith)

@@ -61,9 +61,10 @@ loop-less c = omega arith
 
 loop-again : tie.Need-loop-again Inv-loop μ-loop
 unfolding digit
-loop-again c =
-    (written-next _ (c .before .before .loop .inv .0) (c .if1 .taken) (ap (λ (z : ℕ). c .before .before .before .before .before .before .args .entry / z % c .before .before .before .before .before .before .args .plan .s) (weight c)),
-    weight c ∙ ap (λ (k : ℕ). c .before .before .before .before .before .before .args .plan .s ^ (c .before .before .before .before .before .before .args .plan .n - k)) (sym (add-one (c .before .before .loop .j))))
+loop-again c = (
+  written-next _ (c .before .before .loop .inv .0) (c .if1 .taken) (ap (λ (z : ℕ). c .before .before .before .before .before .before .args .entry / z % c .before .before .before .before .before .before .args .plan .s) (weight c)),
+  weight c ∙ ap (λ (k : ℕ). c .before .before .before .before .before .before .args .plan .s ^ (c .before .before .before .before .before .before .args .plan .n - k)) (sym (add-one (c .before .before .loop .j))),
+)
 
 same-length : tie.Need-same-length Inv-loop μ-loop
 same-length c = omega arith

@@ -41,11 +41,16 @@ slice-aggregate-fill-blocks c = sym (ap length (front (c .before .before) _) ∙
 fill-blocks-requires : tie.Need-fill-blocks-requires
 fill-blocks-requires c κs =
     let P = c .before .before .before .before .before .before .before .before .before .before .args .plan in
-    let x = front (c .before .before .before) _ in
-    (c .before .before .before .before .before .before .before .before .before .before .pre .0,
-    (c .before .before .before .before .before .before .before .before .before .before .pre .1 .0 .products-length,
-    ((ap length x ∙ values-length _ _ _ _, λ i. subst⁻¹ (λ (xs : List ℕ). at xs i < P .p) x (values-residues _ _ _ _ (c .before .before .before .before .before .before .before .before .before .before .pre .0) (c .before .before .before .before .before .before .before .before .before .before .pre .1 .0 .tables-residues) i)),
-    c .before .before .before .before .before .before .before .before .before .before .pre .1 .1)))
+    let x = front (c .before .before .before) _ in (
+      c .before .before .before .before .before .before .before .before .before .before .pre .0,
+      (
+        c .before .before .before .before .before .before .before .before .before .before .pre .1 .0 .products-length,
+        (
+          (ap length x ∙ values-length _ _ _ _, λ i. subst⁻¹ (λ (xs : List ℕ). at xs i < P .p) x (values-residues _ _ _ _ (c .before .before .before .before .before .before .before .before .before .before .pre .0) (c .before .before .before .before .before .before .before .before .before .before .pre .1 .0 .tables-residues) i)),
+          c .before .before .before .before .before .before .before .before .before .before .pre .1 .1,
+        ),
+      ),
+    )
 
 same-length : tie.Need-same-length
 same-length c = search needs
