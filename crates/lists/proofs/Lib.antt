@@ -4,3 +4,4 @@ pub mod Tabs
 pub mod Tests
 pub mod Parts
 pub mod Overwrite
+pub mod Placing

@@ -1,5 +1,6 @@
 -- The laws of `sum`. Each is an induction on the number of terms; `omega` regroups the sums.
 --     sum-zero, sum-next        no term; one term more, at the end
+--     sum-none, sum-only        all terms zero; all terms zero but one
 --     sum-ext                   equal terms make equal sums
 --     sum-add, sum-mul          the sum of sums; a common factor on the right
 --     sum-append, sum-blocks    a sum cut in two; a sum over b * l places by blocks of l
@@ -7,8 +8,10 @@
 --     sum-le                    a bound of each term bounds the sum
 -- Assumes nothing.
 use mathlib.Core.Path.{_≡_, refl, sym, ap, ap₂, _∙_}
+use mathlib.Core.Logic.{_≢_}
 use Prim.Native.Nat.{ℕ, zero, suc, _+_, _-_, _*_, _≤_, _<_}
-use native.Mathlib.Nat.{add-zero, add-suc, le-step, lt-suc-self, zero-mul, suc-mul, mul-zero}
+use native.Mathlib.Nat.{add-zero, zero-add, add-suc, le-step, lt-suc-self, not-suc-le-zero, zero-mul, suc-mul}
+use native.Mathlib.Decide.{ℕ-discrete}
 use native.Mathlib.Numerals.{add-one}
 use native.Mathlib.Omega.{arith}
 use Rattle.lists.specs.Places.{sum}
@@ -59,3 +62,18 @@ pub sum-le : (f : ℕ → ℕ) (k n : ℕ) → ((i : ℕ) → i < n → f i ≤ 
 unfolding sum
 sum-le f k zero h = omega arith
 sum-le f k (suc n) h = omega (arith, sum-le f k n (λ i l. h i (le-step l)), h n (lt-suc-self n))
+
+pub sum-none : (f : ℕ → ℕ) (n : ℕ) → ((i : ℕ) → i < n → f i ≡ 0) → sum f n ≡ 0
+unfolding sum
+sum-none f zero h = refl
+sum-none f (suc n) h = ap₂ _+_ (sum-none f n (λ i l. h i (le-step l))) (h n (lt-suc-self n))
+
+pub sum-only : (f : ℕ → ℕ) (n i : ℕ) → i < n → ((j : ℕ) → j < n → j ≢ i → f j ≡ 0) → sum f n ≡ f i
+unfolding sum
+sum-only f zero i l h = absurd (not-suc-le-zero l)
+sum-only f (suc n) i l h = elim (ℕ-discrete i n) [
+  | yes e ↦
+      ap₂ _+_ (sum-none f n (λ j k. h j (le-step k) (λ d. omega arith))) (ap f (sym e)) ∙ zero-add (f i)
+  | no d ↦
+      ap₂ _+_ (sum-only f n i (omega arith) (λ j k. h j (le-step k))) (h n (lt-suc-self n) (λ e. d (sym e))) ∙ add-zero (f i)
+]

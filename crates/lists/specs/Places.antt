@@ -1,12 +1,14 @@
--- A row, a part or a store is read as a function of the place. Three definitions turn such functions into numbers, lists and tests.
+-- A row, a part or a store is read as a function of the place. These definitions turn such functions into numbers, lists and tests.
 --     sum f n      f 0 + f 1 + .. + f (n - 1)
 --     tab n f      the list f 0, f 1, .., f (n - 1)
 --     every f n    the test f holds at each place below n
+--     joined f n   the lists f 0, f 1, .., f (n - 1), one after the other
+--     placed out k xs    the list out with xs written over it from place k on
 --     at xs i      what stands at place i of the list xs (0 past its end)
-use mathlib.Core.List.{List, [], _∷_}
+use mathlib.Core.List.{List, [], _∷_, _++_}
 use mathlib.Core.Bool.{Bool, true, _&&_}
 use Prim.Native.Nat.{ℕ, zero, suc, _+_}
-use lib.ListN.{getD}
+use lib.ListN.{getD, length, take, drop}
 
 unfoldable pub sum : (ℕ → ℕ) → ℕ → ℕ
 sum f zero = 0
@@ -15,6 +17,13 @@ sum f (suc n) = sum f n + f n
 unfoldable pub tab {ℓ} : {A : Type ℓ} → ℕ → (ℕ → A) → List A
 tab zero f = []
 tab (suc n) f = f zero ∷ tab n (λ k. f (suc k))
+
+unfoldable pub joined {ℓ} : {A : Type ℓ} → (ℕ → List A) → ℕ → List A
+joined f zero = []
+joined f (suc n) = joined f n ++ f n
+
+abbrev pub placed {ℓ} : {A : Type ℓ} → List A → ℕ → List A → List A
+placed out k xs = take k out ++ (xs ++ drop (k + length xs) out)
 
 unfoldable pub every : (ℕ → Bool) → ℕ → Bool
 every f zero = true

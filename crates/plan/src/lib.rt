@@ -12,5 +12,6 @@ pub use entry::check;
 pub use entry::row;
 pub use numbers::Checked;
 pub use numbers::Plan;
+pub use parts::part_refusal;
 pub use rows::fill_row;
 pub use rows::fill_variables;
