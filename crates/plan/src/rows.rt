@@ -85,17 +85,17 @@ fn fill_blocks(plan: Plan, d: &[u8], x: &[u8], row: &mut [u8])
 {
     let p = plan.p;
     let l = plan.variables();
-    let mut begin: usize = 0;
+    let mut from: usize = 0;
     let mut b: usize = 0;
     while b < plan.t {
-        let end = begin + l;
-        let g = field::dot(&d[begin..end], x, p);
-        field::set_multiple(&mut row[begin..end], x, g, p);
-        begin = end;
+        let end = from + l;
+        let g = field::dot(&d[from..end], x, p);
+        field::set_multiple(&mut row[from..end], x, g, p);
+        from = end;
         b += 1;
     }
-    let end = begin + l;
-    field::set_multiple(&mut row[begin..end], x, 1, p);
+    let end = from + l;
+    field::set_multiple(&mut row[from..end], x, 1, p);
 }
 
 // Row `entry` of a checked plan with its parts as lent.

@@ -14,10 +14,10 @@ use Rattle.plan.proofs.rows.fill_blocks.Statement.{statement}
 use Rattle.plan.proofs.rows.fill_blocks.Tie as tie
 
 abbrev Inv-loop : tie.InvT-loop
-Inv-loop plan d x row₀ p l begin₀ b₀ row begin b = Written (columns plan) (rowPlace plan d x) row₀ begin row × (begin ≡ b * variables plan) × (b ≤ plan .t)
+Inv-loop plan d x row₀ p l from₀ b₀ row from b = Written (columns plan) (rowPlace plan d x) row₀ from row × (from ≡ b * variables plan) × (b ≤ plan .t)
 
 abbrev μ-loop : tie.MeasureT-loop
-μ-loop plan d x row₀ p l begin₀ b₀ row begin b = plan .t - b
+μ-loop plan d x row₀ p l from₀ b₀ row from b = plan .t - b
 
 variables-requires : tie.Need-variables-requires Inv-loop μ-loop
 variables-requires c κs = c .before .before .before .pre .0
@@ -26,13 +26,13 @@ loop-holds : tie.Need-loop-holds Inv-loop μ-loop
 loop-holds c = (written-none _ _ _ (c .before .before .before .before .pre .1 .1 .1), omega arith, omega arith)
 
 -- the last block begins where the products' blocks end
-last-begin : (c : tie.Else1 Inv-loop μ-loop) → c .before .before .loop .begin ≡ c .before .before .before .before .before .before .before .args .plan .t * variables (c .before .before .before .before .before .before .before .args .plan)
-last-begin c =
+last-from : (c : tie.Else1 Inv-loop μ-loop) → c .before .before .loop .from ≡ c .before .before .before .before .before .before .before .args .plan .t * variables (c .before .before .before .before .before .before .before .args .plan)
+last-from c =
     let b : c .before .before .loop .b ≡ c .before .before .before .before .before .before .before .args .plan .t = omega arith in
     c .before .before .loop .inv .1 ∙ ap (λ (k : ℕ). k * variables (c .before .before .before .before .before .before .before .args .plan)) b
 
 add-end : tie.Need-add-end Inv-loop μ-loop
-add-end c = omega (arith, block-room (c .before .before .before .before .before .before .before .args .plan) (c .before .before .loop .begin) (c .before .before .before .variables .result) (c .before .before .loop .b) (c .before .before .loop .inv .1) (c .before .before .before .variables .ensures) (c .if1 .taken))
+add-end c = omega (arith, block-room (c .before .before .before .before .before .before .before .args .plan) (c .before .before .loop .from) (c .before .before .before .variables .result) (c .before .before .loop .b) (c .before .before .loop .inv .1) (c .before .before .before .variables .ensures) (c .if1 .taken))
 
 sub-dot : tie.Need-sub-dot Inv-loop μ-loop
 sub-dot c = omega arith
@@ -41,12 +41,12 @@ part-dot-start : tie.Need-part-dot-start Inv-loop μ-loop
 part-dot-start c = omega arith
 
 part-dot-end : tie.Need-part-dot-end Inv-loop μ-loop
-part-dot-end c = rw (c .before .before .before .before .before .before .before .pre .1 .0) (block-room (c .before .before .before .before .before .before .before .args .plan) (c .before .before .loop .begin) (c .before .before .before .variables .result) (c .before .before .loop .b) (c .before .before .loop .inv .1) (c .before .before .before .variables .ensures) (c .if1 .taken))
+part-dot-end c = rw (c .before .before .before .before .before .before .before .pre .1 .0) (block-room (c .before .before .before .before .before .before .before .args .plan) (c .before .before .loop .from) (c .before .before .before .variables .result) (c .before .before .loop .b) (c .before .before .loop .inv .1) (c .before .before .before .variables .ensures) (c .if1 .taken))
 
 dot-requires : tie.Need-dot-requires Inv-loop μ-loop
 dot-requires c κs =
-    let room = block-room (c .before .before .before .before .before .before .before .before .args .plan) (c .before .before .before .loop .begin) (c .before .before .before .before .variables .result) (c .before .before .before .loop .b) (c .before .before .before .loop .inv .1) (c .before .before .before .before .variables .ensures) (c .before .if1 .taken) in
-    let e = cut-length (c .before .before .before .before .before .before .before .before .args .d .now) (c .before .before .before .loop .begin) (c .before .before .before .before .variables .result) (rw (c .before .before .before .before .before .before .before .before .pre .1 .0) room) ∙ c .before .before .before .before .variables .ensures in
+    let room = block-room (c .before .before .before .before .before .before .before .before .args .plan) (c .before .before .before .loop .from) (c .before .before .before .before .variables .result) (c .before .before .before .loop .b) (c .before .before .before .loop .inv .1) (c .before .before .before .before .variables .ensures) (c .before .if1 .taken) in
+    let e = cut-length (c .before .before .before .before .before .before .before .before .args .d .now) (c .before .before .before .loop .from) (c .before .before .before .before .variables .result) (rw (c .before .before .before .before .before .before .before .before .pre .1 .0) room) ∙ c .before .before .before .before .variables .ensures in
     (modulus (c .before .before .before .before .before .before .before .before .pre .0), (c .before .before .before .before .before .before .before .before .pre .1 .1 .0 .0 ∙ sym e, omega (arith, e, c .before .before .before .before .before .before .before .before .pre .0 .variable-limit)))
 
 sub-set-multiple : tie.Need-sub-set-multiple Inv-loop μ-loop
@@ -56,13 +56,13 @@ part-set-multiple-start : tie.Need-part-set-multiple-start Inv-loop μ-loop
 part-set-multiple-start c = omega arith
 
 part-set-multiple-end : tie.Need-part-set-multiple-end Inv-loop μ-loop
-part-set-multiple-end c = rw (c .before .before .before .before .loop .inv .0 .same) (row-room (c .before .before .before .before .before .before .before .before .before .args .plan) (c .before .before .before .before .loop .begin) (c .before .before .before .before .before .variables .result) (block-room (c .before .before .before .before .before .before .before .before .before .args .plan) (c .before .before .before .before .loop .begin) (c .before .before .before .before .before .variables .result) (c .before .before .before .before .loop .b) (c .before .before .before .before .loop .inv .1) (c .before .before .before .before .before .variables .ensures) (c .before .before .if1 .taken)))
+part-set-multiple-end c = rw (c .before .before .before .before .loop .inv .0 .same) (row-room (c .before .before .before .before .before .before .before .before .before .args .plan) (c .before .before .before .before .loop .from) (c .before .before .before .before .before .variables .result) (block-room (c .before .before .before .before .before .before .before .before .before .args .plan) (c .before .before .before .before .loop .from) (c .before .before .before .before .before .variables .result) (c .before .before .before .before .loop .b) (c .before .before .before .before .loop .inv .1) (c .before .before .before .before .before .variables .ensures) (c .before .before .if1 .taken)))
 
 set-multiple-requires : tie.Need-set-multiple-requires Inv-loop μ-loop
 set-multiple-requires c κs =
     let pos : 0 < c .before .before .before .before .before .before .before .before .before .before .args .plan .p = omega (arith, prime-low (c .before .before .before .before .before .before .before .before .before .before .pre .0)) in
-    let room = row-room (c .before .before .before .before .before .before .before .before .before .before .args .plan) (c .before .before .before .before .before .loop .begin) (c .before .before .before .before .before .before .variables .result) (block-room (c .before .before .before .before .before .before .before .before .before .before .args .plan) (c .before .before .before .before .before .loop .begin) (c .before .before .before .before .before .before .variables .result) (c .before .before .before .before .before .loop .b) (c .before .before .before .before .before .loop .inv .1) (c .before .before .before .before .before .before .variables .ensures) (c .before .before .before .if1 .taken)) in
-    let e = cut-length (c .before .before .before .before .before .loop .row) (c .before .before .before .before .before .loop .begin) (c .before .before .before .before .before .before .variables .result) (rw (c .before .before .before .before .before .loop .inv .0 .same) room) ∙ c .before .before .before .before .before .before .variables .ensures in
+    let room = row-room (c .before .before .before .before .before .before .before .before .before .before .args .plan) (c .before .before .before .before .before .loop .from) (c .before .before .before .before .before .before .variables .result) (block-room (c .before .before .before .before .before .before .before .before .before .before .args .plan) (c .before .before .before .before .before .loop .from) (c .before .before .before .before .before .before .variables .result) (c .before .before .before .before .before .loop .b) (c .before .before .before .before .before .loop .inv .1) (c .before .before .before .before .before .before .variables .ensures) (c .before .before .before .if1 .taken)) in
+    let e = cut-length (c .before .before .before .before .before .loop .row) (c .before .before .before .before .before .loop .from) (c .before .before .before .before .before .before .variables .result) (rw (c .before .before .before .before .before .loop .inv .0 .same) room) ∙ c .before .before .before .before .before .before .variables .ensures in
     (modulus (c .before .before .before .before .before .before .before .before .before .before .pre .0), (c .before .before .before .before .before .before .before .before .before .before .pre .1 .1 .0 .0 ∙ sym e, (c .before .before .before .before .before .before .before .before .before .before .pre .1 .1 .0 .1, rw (c .before .dot .ensures) (le-of-lt (mod-lt _ pos)))))
 
 add-b : tie.Need-add-b Inv-loop μ-loop
@@ -79,7 +79,7 @@ loop-again c = (
 )
 
 add-end-2 : tie.Need-add-end-2 Inv-loop μ-loop
-add-end-2 c = rw (last-room (c .before .before .before .before .before .before .before .args .plan) (c .before .before .loop .begin) (c .before .before .before .variables .result) (last-begin c) (c .before .before .before .variables .ensures)) (omega arith)
+add-end-2 c = rw (last-room (c .before .before .before .before .before .before .before .args .plan) (c .before .before .loop .from) (c .before .before .before .variables .result) (last-from c) (c .before .before .before .variables .ensures)) (omega arith)
 
 sub-set-multiple-2 : tie.Need-sub-set-multiple-2 Inv-loop μ-loop
 sub-set-multiple-2 c = omega arith
@@ -88,19 +88,19 @@ part-set-multiple-start-2 : tie.Need-part-set-multiple-start-2 Inv-loop μ-loop
 part-set-multiple-start-2 c = omega arith
 
 part-set-multiple-end-2 : tie.Need-part-set-multiple-end-2 Inv-loop μ-loop
-part-set-multiple-end-2 c = rw (c .before .before .loop .inv .0 .same) (le-of-eq (last-room (c .before .before .before .before .before .before .before .args .plan) (c .before .before .loop .begin) (c .before .before .before .variables .result) (last-begin c) (c .before .before .before .variables .ensures)))
+part-set-multiple-end-2 c = rw (c .before .before .loop .inv .0 .same) (le-of-eq (last-room (c .before .before .before .before .before .before .before .args .plan) (c .before .before .loop .from) (c .before .before .before .variables .result) (last-from c) (c .before .before .before .variables .ensures)))
 
 set-multiple-requires-2 : tie.Need-set-multiple-requires-2 Inv-loop μ-loop
 set-multiple-requires-2 c κs =
-    let room = le-of-eq (last-room (c .before .before .before .before .before .before .before .before .args .plan) (c .before .before .before .loop .begin) (c .before .before .before .before .variables .result) (last-begin (c .before)) (c .before .before .before .before .variables .ensures)) in
-    let e = cut-length (c .before .before .before .loop .row) (c .before .before .before .loop .begin) (c .before .before .before .before .variables .result) (rw (c .before .before .before .loop .inv .0 .same) room) ∙ c .before .before .before .before .variables .ensures in
+    let room = le-of-eq (last-room (c .before .before .before .before .before .before .before .before .args .plan) (c .before .before .before .loop .from) (c .before .before .before .before .variables .result) (last-from (c .before)) (c .before .before .before .before .variables .ensures)) in
+    let e = cut-length (c .before .before .before .loop .row) (c .before .before .before .loop .from) (c .before .before .before .before .variables .result) (rw (c .before .before .before .loop .inv .0 .same) room) ∙ c .before .before .before .before .variables .ensures in
     (modulus (c .before .before .before .before .before .before .before .before .pre .0), (c .before .before .before .before .before .before .before .before .pre .1 .1 .0 .0 ∙ sym e, (c .before .before .before .before .before .before .before .before .pre .1 .1 .0 .1, omega (arith, prime-low (c .before .before .before .before .before .before .before .before .pre .0)))))
 
 same-length : tie.Need-same-length Inv-loop μ-loop
-same-length c = last-turn (c .before .before .before .before .before .before .before .before .before .before .before .args .plan) (c .before .before .before .before .before .before .before .before .before .before .before .args .d .now) (c .before .before .before .before .before .before .before .before .before .before .before .args .x .now) (c .before .before .before .before .before .before .before .variables .result) (c .before .before .before .before .before .before .loop .inv .0) (last-begin (c .before .before .before .before)) (c .before .before .before .before .before .before .before .variables .ensures) (c .before .before .before .before .before .before .before .before .before .before .before .pre .1 .1 .0 .0) (c .before .before .before .before .before .before .before .before .before .before .before .pre .1 .1 .0 .1) (c .before .before .set-multiple2 .ensures) .same ∙ sym (c .before .before .before .before .before .before .before .before .before .before .before .pre .1 .1 .1)
+same-length c = last-turn (c .before .before .before .before .before .before .before .before .before .before .before .args .plan) (c .before .before .before .before .before .before .before .before .before .before .before .args .d .now) (c .before .before .before .before .before .before .before .before .before .before .before .args .x .now) (c .before .before .before .before .before .before .before .variables .result) (c .before .before .before .before .before .before .loop .inv .0) (last-from (c .before .before .before .before)) (c .before .before .before .before .before .before .before .variables .ensures) (c .before .before .before .before .before .before .before .before .before .before .before .pre .1 .1 .0 .0) (c .before .before .before .before .before .before .before .before .before .before .before .pre .1 .1 .0 .1) (c .before .before .set-multiple2 .ensures) .same ∙ sym (c .before .before .before .before .before .before .before .before .before .before .before .pre .1 .1 .1)
 
 returns : tie.Need-returns Inv-loop μ-loop
-returns c = written-all (last-turn (c .before .before .before .before .before .before .before .before .before .before .before .args .plan) (c .before .before .before .before .before .before .before .before .before .before .before .args .d .now) (c .before .before .before .before .before .before .before .before .before .before .before .args .x .now) (c .before .before .before .before .before .before .before .variables .result) (c .before .before .before .before .before .before .loop .inv .0) (last-begin (c .before .before .before .before)) (c .before .before .before .before .before .before .before .variables .ensures) (c .before .before .before .before .before .before .before .before .before .before .before .pre .1 .1 .0 .0) (c .before .before .before .before .before .before .before .before .before .before .before .pre .1 .1 .0 .1) (c .before .before .set-multiple2 .ensures)) (omega arith)
+returns c = written-all (last-turn (c .before .before .before .before .before .before .before .before .before .before .before .args .plan) (c .before .before .before .before .before .before .before .before .before .before .before .args .d .now) (c .before .before .before .before .before .before .before .before .before .before .before .args .x .now) (c .before .before .before .before .before .before .before .variables .result) (c .before .before .before .before .before .before .loop .inv .0) (last-from (c .before .before .before .before)) (c .before .before .before .before .before .before .before .variables .ensures) (c .before .before .before .before .before .before .before .before .before .before .before .pre .1 .1 .0 .0) (c .before .before .before .before .before .before .before .before .before .before .before .pre .1 .1 .0 .1) (c .before .before .set-multiple2 .ensures)) (omega arith)
 
 pub fill-blocks-spec : {M : Type 1} → statement M
 fill-blocks-spec =

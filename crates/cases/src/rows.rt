@@ -1,0 +1,112 @@
+// Values of the parts, and rows.
+use crate::say;
+
+// Checks the plan p=3 s=2 n=2 with one link and one product, each part given.
+fn given(weights: &[u8], tables: &[u8], d: &[u8]) -> u8 {
+    plan::check(3, 2, 2, 1, 1, weights, tables, d)
+}
+
+// A part's value that is not below p.
+pub fn values() {
+    say(
+        b"values below p",
+        given(b"\x02\x02", b"\x02\x02\x02", b"\x02\x02\x02"),
+    );
+    say(
+        b"a weight of p",
+        given(b"\x02\x03", b"\x02\x02\x02", b"\x02\x02\x02"),
+    );
+    say(
+        b"a table value of p",
+        given(b"\x02\x02", b"\x03\x02\x02", b"\x02\x02\x02"),
+    );
+    say(
+        b"a product weight of 255",
+        given(b"\x02\x02", b"\x02\x02\x02", b"\x02\xff\x02"),
+    );
+    say(
+        b"a length before a value",
+        given(b"\x03\x03", b"\x03\x03\x03", b"\x02\x02"),
+    );
+}
+
+// The XOR plan's row of an entry, into `row`.
+fn xor_row(entry: usize, row: &mut [u8]) -> u8 {
+    plan::row(3, 2, 2, 0, 1, b"", b"", b"\x01\x01", entry, row)
+}
+
+// A number after a space.
+fn next(byte: u8) {
+    io::write_all(1, b" ");
+    io::print_decimal(1, byte as u64);
+}
+
+// The bytes of a row.
+fn show(row: [u8; 4]) {
+    io::write_all(1, b"row");
+    next(row[0]);
+    next(row[1]);
+    next(row[2]);
+    next(row[3]);
+    io::write_all(1, b"\n");
+}
+
+// Entries in and out of range; a refusal leaves the row as it was, here all nines.
+pub fn entries() {
+    let mut row = [9u8; 4];
+    say(b"entry 4", xor_row(4, &mut row));
+    show(row);
+    say(b"entry max", xor_row(18446744073709551615, &mut row));
+    show(row);
+    let mut long = [9u8; 5];
+    say(b"row too long", xor_row(0, &mut long));
+    let mut short = [9u8; 3];
+    say(b"row too short", xor_row(0, &mut short));
+    say(b"length before entry", xor_row(4, &mut short));
+}
+
+// One row of the XOR plan.
+fn xor_entry(entry: usize) {
+    let mut row = [9u8; 4];
+    say(b"entry", xor_row(entry, &mut row));
+    show(row);
+}
+
+// The four rows of the XOR plan.
+pub fn xor() {
+    xor_entry(0);
+    xor_entry(1);
+    xor_entry(2);
+    xor_entry(3);
+}
+
+// One row under two links, of which the second reads the first: p=5 s=3 n=1, weights 2 and 1 3, tables that square and add one.
+fn linked_entry(entry: usize) {
+    let mut row = [9u8; 3];
+    say(
+        b"linked entry",
+        plan::row(
+            5,
+            3,
+            1,
+            2,
+            0,
+            b"\x02\x01\x03",
+            b"\x00\x01\x04\x04\x01\x01\x02\x03\x04\x00",
+            b"",
+            entry,
+            &mut row,
+        ),
+    );
+    say(b"variable", row[0]);
+    say(b"variable", row[1]);
+    say(b"variable", row[2]);
+}
+
+// The digit, then the links; entry 3 is out of range and leaves the row as it was.
+pub fn linked() {
+    linked_entry(0);
+    linked_entry(1);
+    linked_entry(2);
+    linked_entry(3);
+}
