@@ -1,6 +1,6 @@
 -- Bytes below p.
 --     below-joined       a maximum is below a bound exactly when both numbers are
---     residues-of        the test `allBelow` says `Residues`
+--     residues-of, below-of     the test `allBelow` says `Residues`, and back
 --     residues-tab, residues-snoc       lists of residues: by place, and with one residue more at the end
 -- Assumes nothing.
 use mathlib.Core.Path.{_≡_, refl, sym, ap₂, _∙_}
@@ -12,7 +12,7 @@ use native.Mathlib.Omega.{arith}
 use lib.Dec.{ltb}
 use lib.ListN.{length}
 use Rattle.lists.specs.Places.{every, tab, at}
-use Rattle.lists.proofs.Tests.{every-at}
+use Rattle.lists.proofs.Tests.{every-at, every-of}
 use Rattle.lists.proofs.Tabs.{tab-length, tab-at}
 use Rattle.lists.proofs.Parts.{at-past}
 use Rattle.field.specs.Residues.{Residues}
@@ -40,6 +40,9 @@ residues-of p xs pos h i = elim (decLt i (length xs)) [
   | yes l ↦ ltb-true (at xs i) p (every-at (λ j. ltb (at xs j) p) (length xs) h i l)
   | no l ↦ rw (at-past xs i (omega arith)) pos
 ]
+
+pub below-of : (p : ℕ) (xs : List ℕ) → Residues p xs → allBelow p xs ≡ true
+below-of p xs h = every-of (λ j. ltb (at xs j) p) (length xs) (λ i l. lt-ltb (at xs i) p (h i))
 
 pub residues-tab : (p n : ℕ) (f : ℕ → ℕ) → 0 < p → ((i : ℕ) → i < n → f i < p) → Residues p (tab n f)
 residues-tab p n f pos h i = elim (decLt i n) [

@@ -2,10 +2,13 @@
 --     dot ws xs n              the first n places of ws, each times its place of xs, summed
 --     plusMultiple p g xs ys   xs plus g times ys, place by place, modulo p
 --     multiple p g ys          g times ys, place by place, modulo p
+--     plusTimes g xs ys        xs plus g times ys, place by place, not reduced
+--     remainders p xs          xs modulo p, place by place
+--     maxima xs ys             the larger of xs and ys, place by place
 --     allBelow p xs            each place of xs is below p, as a test
 use mathlib.Core.Bool.{Bool}
 use mathlib.Core.List.{List}
-use Prim.Native.Nat.{ℕ, _+_, _*_, _%_}
+use Prim.Native.Nat.{ℕ, _+_, _*_, _%_, max}
 use lib.Dec.{ltb}
 use lib.ListN.{length}
 use Rattle.lists.specs.Places.{sum, tab, every, at}
@@ -18,6 +21,15 @@ plusMultiple p g xs ys = tab (length xs) (λ j. (at xs j + g * at ys j) % p)
 
 abbrev pub multiple : ℕ → ℕ → List ℕ → List ℕ
 multiple p g ys = tab (length ys) (λ j. (g * at ys j) % p)
+
+abbrev pub plusTimes : ℕ → List ℕ → List ℕ → List ℕ
+plusTimes g xs ys = tab (length xs) (λ j. at xs j + g * at ys j)
+
+abbrev pub remainders : ℕ → List ℕ → List ℕ
+remainders p xs = tab (length xs) (λ j. at xs j % p)
+
+abbrev pub maxima : List ℕ → List ℕ → List ℕ
+maxima xs ys = tab (length xs) (λ j. max (at xs j) (at ys j))
 
 abbrev pub allBelow : ℕ → List ℕ → Bool
 allBelow p xs = every (λ j. ltb (at xs j) p) (length xs)

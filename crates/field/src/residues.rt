@@ -28,6 +28,28 @@ pub fn cell(x: u8, y: u8, g: u8, p: u8, m: u16) -> u8
     (r - (p as u16)) as u8
 }
 
+// 4294967296 / p, the factor by which `remainder` divides by p.
+pub fn wide_reciprocal(p: u8) -> u32
+    requires { ⌜ specs.Modulus p ⌝ }
+    ensures { λ r. ⌜ r ≡ 4294967296 / p ⌝ }
+{
+    (4294967296 / (p as u64)) as u32
+}
+
+// v modulo p, by the same way as `cell` at 32 bits. m is `wide_reciprocal(p)`, made once for a row.
+pub fn remainder(v: u32, p: u8, m: u32) -> u8
+    requires { ⌜ specs.Modulus p ⌝ }
+    requires { ⌜ m ≡ 4294967296 / p ⌝ }
+    ensures { λ r. ⌜ r ≡ v % p ⌝ }
+{
+    let q = ((v as u64) * (m as u64) / 4294967296) as u32;
+    let r = v - q * (p as u32);
+    if r < (p as u32) {
+        return r as u8;
+    }
+    (r - (p as u32)) as u8
+}
+
 // b where e is odd, 1 where it is even.
 fn odd_factor(b: u8, e: u8) -> u8
     ensures { λ r. ⌜ (r ≡ b ^ (e % 2)) × (r ≤ max b 1) ⌝ }

@@ -6,6 +6,8 @@ ghost use Rattle.field.specs.Residues.{Modulus, Residues};
 ghost use Rattle.field.specs.Rows as specs;
 use crate::residues::cell;
 use crate::residues::reciprocal;
+use crate::residues::remainder;
+use crate::residues::wide_reciprocal;
 
 // xs plus g times ys. With g = p - f it subtracts f times ys; g may be p itself, for f = 0.
 pub fn add_multiple(xs: &mut [u8], ys: &[u8], g: u8, p: u8)
@@ -56,6 +58,33 @@ pub fn dot(ws: &[u8], xs: &[u8], p: u8) -> u8
     (total % (p as u32)) as u8
 }
 
+// acc plus g times ys, in 32 bits and not reduced: each place has room for one product of two bytes more.
+pub fn accumulate(acc: &mut [u32], ys: &[u8], g: u8)
+    requires { ⌜ length (now ys) ≡ length (now acc) ⌝ }
+    requires { ⌜ Residues 4294902271 (now acc) ⌝ }
+    ensures { λ _. ⌜ now (acc .exit) ≡ specs.plusTimes g (now (acc .entry)) (now (ys .entry)) ⌝ }
+{
+    let mut j = 0;
+    while j < acc.len() {
+        acc[j] = acc[j] + (g as u32) * (ys[j] as u32);
+        j += 1;
+    }
+}
+
+// acc modulo p, into out.
+pub fn reduce(out: &mut [u8], acc: &[u32], p: u8)
+    requires { ⌜ Modulus p ⌝ }
+    requires { ⌜ length (now acc) ≡ length (now out) ⌝ }
+    ensures { λ _. ⌜ now (out .exit) ≡ specs.remainders p (now (acc .entry)) ⌝ }
+{
+    let m = wide_reciprocal(p);
+    let mut j = 0;
+    while j < out.len() {
+        out[j] = remainder(acc[j], p, m);
+        j += 1;
+    }
+}
+
 // The larger of two bytes.
 fn larger(a: u8, b: u8) -> u8
     ensures { λ r. ⌜ r ≡ max a b ⌝ }
@@ -64,6 +93,18 @@ fn larger(a: u8, b: u8) -> u8
         return b;
     }
     a
+}
+
+// The larger of seen and xs, place by place. Each place is stored to, so that the loop becomes vector code.
+pub fn raise(seen: &mut [u8], xs: &[u8])
+    requires { ⌜ length (now xs) ≡ length (now seen) ⌝ }
+    ensures { λ _. ⌜ now (seen .exit) ≡ specs.maxima (now (seen .entry)) (now (xs .entry)) ⌝ }
+{
+    let mut j = 0;
+    while j < seen.len() {
+        seen[j] = larger(seen[j], xs[j]);
+        j += 1;
+    }
 }
 
 // Whether each byte of xs is below p, by their maximum.

@@ -2,28 +2,34 @@
 --     product-place, last-place       a row's place in a product's block, and in the last block
 --     weighted-of-part                a block's weighted sum from its part of d
 --     product-block, last-block       a whole block as a multiple of the variables
+--     row-length, row-residues        a row has C places, each below p
 --     block-room, block-turn          block b fits in the row and in d; the turn of a loop that writes it there
 --     last-turn                       the row with its last block written, which is the whole row
 -- Assumes nothing.
 use mathlib.Core.Path.{_≡_, sym, ap, ap₂, subst, _∙_}
+use mathlib.Core.Bool.{Bool, true, false, cond}
 use mathlib.Core.List.{List, _++_}
-use Prim.Native.Nat.{ℕ, _+_, _-_, _*_, _%_, _≤_, _<_}
-use native.Mathlib.Nat.{one-mul, mul-comm, mod-eq-of-lt, le-refl, le-of-eq, add-sub-cancel-left, mul-le-mul-right}
+use Prim.Native.Nat.{ℕ, _+_, _-_, _*_, _/_, _%_, _≤_, _<_}
+use native.Mathlib.Nat.{one-mul, mul-comm, mod-lt, mod-eq-of-lt, le-refl, le-of-eq, add-sub-cancel-left, mul-le-mul-right}
 use native.Mathlib.Omega.{arith}
+use lib.Dec.{ltb}
 use lib.Arith.{digits-div, digits-mod}
 use lib.ListN.{length, take, drop}
 use borrow.Author.Tests.{lt-ltb, le-ltb}
 use Rattle.lists.specs.Places.{sum, tab, at}
 use Rattle.lists.proofs.Sums.{sum-ext}
-use Rattle.lists.proofs.Tabs.{tab-ext}
+use Rattle.lists.proofs.Tabs.{tab-length, tab-ext}
 use Rattle.lists.proofs.Parts.{part-at, cut-length}
 use Rattle.lists.proofs.Overwrite.{Written, written-part}
 use Rattle.field.specs.Residues.{Residues}
 use Rattle.field.specs.Rows.{dot, multiple}
 use Rattle.field.proofs.Modular.{mul-mod-l}
-use Rattle.plan.specs.Numbers.{variables, columns}
-use Rattle.plan.specs.Rows.{weighted, rowPlace}
+use Rattle.field.proofs.Ranges.{residues-tab}
+use Rattle.plan.specs.Numbers.{variables, columns, Within}
+use Rattle.plan.specs.Rows.{values, weighted, rowPlace, row}
 use Rattle.plan.specs.declared.numbers.Plan.{Plan}
+use Rattle.plan.proofs.Bounds.{prime-low}
+use Rattle.plan.proofs.Chains.{values-residues}
 
 module _ (P : Plan) (d xs : List ℕ) where
   pub product-place : (b j : ℕ) → b < P .t → j < variables P → rowPlace P d xs (b * variables P + j) ≡ at xs j * weighted P d xs b % P .p
@@ -52,6 +58,27 @@ module _ (P : Plan) (d xs : List ℕ) where
         rw same
         (tab-ext (variables P) (λ j. (1 * at xs j) % P .p) (λ j. rowPlace P d xs (P .t * variables P + j)) 0
         (λ j hj. ap (λ (z : ℕ). z % P .p) (one-mul (at xs j)) ∙ mod-eq-of-lt (residues j) ∙ sym (last-place j hj)))
+
+pub row-length : (P : Plan) (w T d : List ℕ) (i : ℕ) → length (row P w T d i) ≡ columns P
+unfolding row
+row-length P w T d i = tab-length (columns P) (rowPlace P d (values P w T i))
+
+pub row-residues : (P : Plan) (w T d : List ℕ) (i : ℕ) → Within P → Residues (P .p) T → Residues (P .p) (row P w T d i)
+unfolding row rowPlace
+row-residues P w T d i within tables =
+    residues-tab (P .p) (columns P) (rowPlace P d (values P w T i)) positive (λ c l. place c)
+  where
+    positive : 0 < P .p
+    positive = omega (arith, prime-low within)
+
+    either : (b : Bool) (x y : ℕ) → x < P .p → y < P .p → cond b x y < P .p
+    either true x y hx hy = hx
+    either false x y hx hy = hy
+
+    place : (c : ℕ) → rowPlace P d (values P w T i) c < P .p
+    place c =
+        either (ltb (c / variables P) (P .t)) (at (values P w T i) (c % variables P) * weighted P d (values P w T i) (c / variables P) % P .p) (at (values P w T i) (c % variables P))
+        (mod-lt _ positive) (values-residues P w T i within tables (c % variables P))
 
 columns-split : (P : Plan) → columns P ≡ P .t * variables P + variables P
 columns-split P = omega arith

@@ -6,6 +6,8 @@
 --     within-of                             a plan that meets none of causes 1 to 3 is within its limits
 --     call-numbers, call-parts, call-passed       a call's refusal: by its numbers, by its parts, or by its own causes
 --     call-plan, call-within, call-lent           what is known of the plan and the parts on the way
+--     accepted-plan, accepted-parts, accepted-call       a plan that is accepted by itself: a call lent it has only its own causes left
+--     none-met                                    a call that is not refused meets none of its causes
 --     lent-of                               parts that meet neither of causes 4 and 5 are lent as the plan asks
 -- Assumes nothing.
 use mathlib.Core.Path.{_≡_, refl, sym, ap, subst, _∙_}
@@ -225,3 +227,38 @@ module _ (p s n m t : ℕ) (w T d : List ℕ) (own : Plan → Bool) (rest : Plan
 
     pub call-passed : 0 ≡ first (partCauses Q w T d (own Q)) → first (callCauses p s n m t w T d own rest) ≡ first (rest Q)
     call-passed h = after-numbers ∙ first-passed (partCauses Q w T d (own Q)) (rest Q) (omega arith) (sym h)
+
+-- a plan that is accepted by itself: only a call's own causes are left
+first-none : (a b : List (ℕ × Bool)) → Numbered a → first (a ++ b) ≡ 0 → (first a ≡ 0) × (first b ≡ 0)
+first-none a b h e = neither-refuses (first a) (first b) (sym (first-append a b h) ∙ e)
+  where
+    neither-refuses : (j k : ℕ) → orElse j k ≡ 0 → (j ≡ 0) × (k ≡ 0)
+    neither-refuses zero k e = (refl, e)
+    neither-refuses (suc j) k e = absurd (omega arith)
+
+module _ (p s n m t : ℕ) (w T d : List ℕ) where
+  -- a call that is not refused meets none of its causes
+  pub none-met : (own : Plan → Bool) (rest : Plan → List (ℕ × Bool)) → first (callCauses p s n m t w T d own rest) ≡ 0
+      → (first (numberCauses p s n m t) ≡ 0) × (first (partCauses (plan p s n m t) w T d (own (plan p s n m t))) ≡ 0) × (first (rest (plan p s n m t)) ≡ 0)
+  unfolding callCauses
+  none-met own rest e =
+      let P = plan p s n m t in
+      let a = first-none (numberCauses p s n m t) (partCauses P w T d (own P) ++ rest P) (omega arith) e in
+      let b = first-none (partCauses P w T d (own P)) (rest P) (omega arith) (a .1) in
+      (a .0, b .0, b .1)
+
+  module _ (accepted : first (callCauses p s n m t w T d (λ _. true) (λ _. [])) ≡ 0) where
+    pub accepted-plan : Within (plan p s n m t)
+    accepted-plan = within-of p s n m t (none-met (λ _. true) (λ _. []) accepted .0)
+
+    pub accepted-parts : Lent (plan p s n m t) w T d
+    accepted-parts = lent-of (plan p s n m t) w T d true accepted-plan (none-met (λ _. true) (λ _. []) accepted .1) .0
+
+    pub accepted-call : (own : Plan → Bool) (rest : Plan → List (ℕ × Bool)) → own (plan p s n m t) ≡ true
+        → first (callCauses p s n m t w T d own rest) ≡ first (rest (plan p s n m t))
+    unfolding callCauses
+    accepted-call own rest e =
+        let P = plan p s n m t in
+        let none = none-met (λ _. true) (λ _. []) accepted in
+        first-passed (numberCauses p s n m t) (partCauses P w T d (own P) ++ rest P) (omega arith) (none .0)
+        ∙ first-passed (partCauses P w T d (own P)) (rest P) (omega arith) (ap (λ (b : Bool). first (partCauses P w T d b)) e ∙ none .1)

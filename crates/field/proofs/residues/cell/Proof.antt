@@ -30,16 +30,16 @@ small c = omega (arith, product-small c)
 
 low : (c : tie.Start) → q c * c .args .p ≤ v c
 unfolding v q
-low c = quotient-low (c .args .p) (v c) (c .args .m) (q c) (positive c) (small c) (c .pre .1 .0) refl
+low c = quotient-low 65536 (c .args .p) (v c) (c .args .m) (q c) (positive c) (small c) (c .pre .1 .0) refl
 
 high : (c : tie.Start) → v c < q c * c .args .p + (c .args .p + c .args .p)
 unfolding v q
-high c = quotient-high (c .args .p) (v c) (c .args .m) (q c) (positive c) (small c) (c .pre .1 .0) refl
+high c = quotient-high 65536 (c .args .p) (v c) (c .args .m) (q c) (positive c) (small c) (c .pre .1 .0) refl
 
 scaled-small : (c : tie.Start) → v c * c .args .m ≤ 65535 * 65535
 scaled-small c =
     let hv : v c ≤ 65535 = omega (arith, small c) in
-    let hm : c .args .m ≤ 65535 = omega (arith, reciprocal-small (c .args .p) (c .args .m) (c .pre .0 .0) (c .pre .1 .0)) in
+    let hm : c .args .m ≤ 65535 = omega (arith, reciprocal-small 65536 (c .args .p) (c .args .m) (omega arith) (c .pre .0 .0) (c .pre .1 .0)) in
     mul-le-mul hv hm
 
 mul-v : tie.Need-mul-v
@@ -74,7 +74,7 @@ returns : tie.Need-returns
 unfolding v q
 returns c =
     let s = c .before in
-    below (s .args .p) (v s) (s .args .m) (q s) (positive s) (small s) (s .pre .1 .0) refl (c .if1 .taken)
+    below 65536 (s .args .p) (v s) (s .args .m) (q s) (positive s) (small s) (s .pre .1 .0) refl (c .if1 .taken)
 
 sub-result : tie.Need-sub-result
 sub-result c = search needs
@@ -87,7 +87,7 @@ returns-2 : tie.Need-returns-2
 unfolding v q
 returns-2 c =
     let s = c .before in
-    above (s .args .p) (v s) (s .args .m) (q s) (positive s) (small s) (s .pre .1 .0) refl (c .if1 .left)
+    above 65536 (s .args .p) (v s) (s .args .m) (q s) (positive s) (small s) (s .pre .1 .0) refl (c .if1 .left)
 
 pub cell-spec : {M : Type 1} → statement M
 cell-spec =

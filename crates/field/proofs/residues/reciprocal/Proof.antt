@@ -12,7 +12,7 @@ div-result : tie.Need-div-result
 div-result c = search needs
 
 cast-result : tie.Need-cast-result
-cast-result c = omega (arith, reciprocal-small (c .args .p) (65536 / c .args .p) (c .pre .0) refl)
+cast-result c = omega (arith, reciprocal-small 65536 (c .args .p) (65536 / c .args .p) (omega arith) (c .pre .0) refl)
 
 returns : tie.Need-returns
 returns c = search needs
