@@ -1,0 +1,25 @@
+-- The theory of elimination, which knows the definitions of specs/ and no code; then, from Zeros on, the laws of the code's loops.
+pub mod Leads
+pub mod Bytes
+pub mod Combinations
+pub mod ReducedForm
+pub mod Residuals
+pub mod Putting
+pub mod Answers
+pub mod Filing
+pub mod SamePlaces
+pub mod ReadingOff
+pub mod Contradictions
+pub mod Implications
+pub mod Uniqueness
+pub mod Filings
+pub mod Zeros
+pub mod Pasting
+pub mod Passing
+pub mod OneReading
+pub mod Multiples
+pub mod Deferring
+pub mod Clearing
+pub mod Outcomes
+pub mod EntryEquations
+pub mod StoreCalls

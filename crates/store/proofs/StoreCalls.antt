@@ -1,0 +1,88 @@
+-- The calls on a store: what a checked plan says of its store's size, and what filing answers and leaves by its refusal.
+--     columns-small, square-small      C is at most 1,024, and the store's size fits
+--     ready-of                         a store that meets neither of causes 4 and 6 is ready for a filing
+--     refused-call                     a refusal is answered by its number, and leaves the store
+--     filed-call                       where the other causes are not met, cause 9 is whether the outcome is a contradiction, which leaves the store
+-- Assumes nothing.
+use mathlib.Core.Path.{_≡_, refl, sym, ap, ap₂, _∙_}
+use mathlib.Core.Bool.{Bool, true, false, cond}
+use mathlib.Core.List.{List}
+use Prim.Native.Nat.{ℕ, zero, suc, _+_, _*_, _≤_, _<_}
+use native.Mathlib.Nat.{mul-le-mul}
+use native.Mathlib.Omega.{arith}
+use lib.ListN.{length}
+use Rattle.plan.specs.declared.numbers.Plan.{Plan}
+use Rattle.plan.specs.Causes.{result}
+use Rattle.plan.specs.Numbers.{columns, Within}
+use Rattle.plan.proofs.Bounds.{modulus}
+use Rattle.plan.proofs.Refusals.{result-refused}
+use Rattle.store.specs.Elimination.{Outcome, new, implied, contradiction, isReduced, outcome, after, cells, flat}
+use Rattle.store.specs.Filings.{isContradiction}
+use Rattle.store.specs.Stages.{Ready}
+use Rattle.store.specs.Calls.{equation, answered, filed}
+use Rattle.store.specs.declared.elimination.Filed.{Filed}
+use Rattle.store.specs.declared.elimination.Filed.the-variants.{New, Implied, Refused}
+use Rattle.store.proofs.Bytes.{flat-cells}
+use Rattle.store.proofs.ReducedForm.{isReduced-means}
+use Rattle.store.proofs.Answers.{contradiction-same}
+
+pub columns-small : {P : Plan} (n : ℕ) → Within P → n ≡ columns P → n ≤ 1024
+columns-small n within e = rw e (within .column-limit)
+
+pub square-small : (n : ℕ) → n ≤ 1024 → n * (n + 1) ≤ 1049600
+square-small n l = let l′ : n + 1 ≤ 1025 = omega arith in mul-le-mul l l′
+
+pub ready-of : (P : Plan) (store : List ℕ) → Within P → length store ≡ columns P * (columns P + 1)
+    → isReduced (P .p) (columns P) (cells (columns P) store) ≡ true → Ready (P .p) (columns P) store
+ready-of P store within places h =
+    record {
+      modulus = modulus within;
+      limit = within .column-limit;
+      places = places;
+      reduced = isReduced-means (P .p) (columns P) (cells (columns P) store) .0 h;
+    }
+
+refused-answer : (k : ℕ) (o : Outcome) → 0 < k → Refused k ≡ answered k o
+unfolding answered
+refused-answer zero o l = absurd (omega arith)
+refused-answer (suc k) o l = refl
+
+-- what a refusal answers and leaves, where F is the call's refusal
+pub refused-call : (F k : ℕ) (o : Outcome) (out old : List ℕ) → k ≡ F → 0 < k → (Refused k ≡ answered F o) × (old ≡ result F out old)
+refused-call F k o out old e l =
+    let l′ : 0 < F = omega arith in
+    (ap Refused e ∙ refused-answer F o l′, sym (result-refused F out old l′))
+
+conflict-last : (o : Outcome) → answered 0 o ≡ answered (cond (isContradiction o) 9 0) o
+unfolding answered
+conflict-last (new c) = refl
+conflict-last implied = refl
+conflict-last contradiction = refl
+
+filed-last : (P : Plan) (w T d store : List ℕ) (i v : ℕ) → length store ≡ columns P * (columns P + 1)
+    → filed P w T d store i v
+    ≡ result (cond (isContradiction (outcome (P .p) (columns P) (cells (columns P) store) (equation P w T d i v))) 9 0) (filed P w T d store i v) store
+unfolding filed
+filed-last P w T d store i v places =
+    last (outcome (P .p) (columns P) (cells (columns P) store) (equation P w T d i v))
+    (λ e.
+    ap (flat (columns P)) (contradiction-same (P .p) (columns P) (cells (columns P) store) (equation P w T d i v) e)
+    ∙ flat-cells (columns P) store places)
+  where
+    last : (o : Outcome) {x : List ℕ} → (o ≡ contradiction → x ≡ store) → x ≡ result (cond (isContradiction o) 9 0) x store
+    last (new c) h = refl
+    last implied h = refl
+    last contradiction h = h refl
+
+-- what the last return answers and leaves, where the other causes are not met
+pub filed-call : (P Q : Plan) (w T d store : List ℕ) (i v F : ℕ) (r : Filed) (out : List ℕ) → P ≡ Q → length store ≡ columns Q * (columns Q + 1)
+    → F ≡ cond (isContradiction (outcome (Q .p) (columns Q) (cells (columns Q) store) (equation Q w T d i v))) 9 0
+    → r ≡ answered 0 (outcome (Q .p) (columns Q) (cells (columns Q) store) (equation Q w T d i v)) → out ≡ filed Q w T d store i v
+    → (r ≡ answered F (outcome (P .p) (columns P) (cells (columns P) store) (equation P w T d i v))) × (out ≡ result F (filed P w T d store i v) store)
+filed-call P Q w T d store i v F r out same places f answer left = (
+  answer ∙ conflict-last (o Q) ∙ ap₂ (λ (k : ℕ) (R : Plan). answered k (o R)) (sym f) (sym same),
+  left ∙ filed-last Q w T d store i v places ∙ ap₂ (λ (k : ℕ) (R : Plan). result k (filed R w T d store i v) store) (sym f) (sym same),
+)
+  where
+    o : Plan → Outcome
+    o R = outcome (R .p) (columns R) (cells (columns R) store) (equation R w T d i v)

@@ -1,0 +1,103 @@
+-- Two reduced stores with the same solutions are the same.
+--     Within             every row of S leaves no residual in S′
+--     same-within        if every solution of S′ solves S, S is within S′
+--     meets              within S′, a row of S with a 1 in its own column agrees with that row of S′ at each column to which no other row adds
+--     pivot-stays        a pivot of S is a pivot of S′
+--     zero-stays         with S′ within S too, a zero row of S is a zero row of S′
+--     reduced-unique     the theorem
+-- A row of S is satisfied by every solution of S′, so S′ implies it and its residual is zero: the row is the sum of its coefficients times
+-- the rows of S′. In column q of row q, rows above q add nothing, since row q of S is zero left of q, and rows below q add nothing, since they
+-- begin right of q; so S and S′ have the same pivots. Then no row but q adds anything to row q.
+-- Assumes nothing.
+use mathlib.Core.Path.{_≡_, refl, sym, ap, _∙_}
+use mathlib.Core.Bool.{true}
+use mathlib.Core.Logic.{_⊎_, inl, inr, ⊎-elim, ⊎-map, _↔_, _≢_}
+use mathlib.Core.List.{List}
+use Prim.Native.Nat.{ℕ, _+_, _-_, _*_, _%_, _≤_, _<_}
+use native.Mathlib.Nat.{le-of-lt, mod-mod, mod-eq-of-lt, mul-mod-right, mul-zero, sub-zero}
+use native.Mathlib.Decide.{decLt}
+use native.Mathlib.Omega.{arith}
+use lib.ListN.{length}
+use Rattle.lists.specs.Places.{sum, at}
+use Rattle.field.specs.Primes.{oddPrime}
+use Rattle.field.specs.Residues.{Residues}
+use Rattle.field.proofs.PrimeTable.{oddPrime-means}
+use Rattle.field.proofs.Modular.{cong-of, cong-add, cong-residue, sum-cong}
+use Rattle.store.specs.Elimination.{Solves, ZeroRow, Pivot, Reduced, residual}
+use Rattle.lists.proofs.Sums.{sum-only}
+use Rattle.store.proofs.ReducedForm.{off-pivot}
+use Rattle.store.proofs.Answers.{implied-zero}
+use Rattle.store.proofs.Implications.{implied-exactly}
+
+-- modulo p, a sum whose terms vanish but one is that term
+sum-only-cong : (p : ℕ) (f : ℕ → ℕ) (n i : ℕ) → i < n → ((j : ℕ) → j < n → j ≢ i → f j % p ≡ 0) → sum f n % p ≡ f i % p
+sum-only-cong p f n i l h =
+    sum-cong p f (λ j. f j % p) n (λ j k. sym (mod-mod (f j) p)) ∙ ap (λ (m : ℕ). m % p) (sum-only (λ j. f j % p) n i l h) ∙ mod-mod (f i) p
+
+-- a - y leaves nothing: a is y
+difference : (k a y : ℕ) → (a + k * y) % (k + 1) ≡ 0 % (k + 1) → a % (k + 1) ≡ y % (k + 1)
+difference k a y h =
+    cong-of (k + 1) a (a + k * y + y) y 0 (omega arith) ∙ cong-add (k + 1) (a + k * y) 0 y y h refl ∙ ap (λ (n : ℕ). n % (k + 1)) (omega arith)
+
+abbrev Within : ℕ → ℕ → (ℕ → ℕ → ℕ) → (ℕ → ℕ → ℕ) → Type 0
+Within p C S S′ = (q j : ℕ) → q < C → j ≤ C → residual p C S′ (S q) j ≡ 0
+
+module _ (p C : ℕ) (prime : oddPrime p ≡ true) (S S′ : ℕ → ℕ → ℕ) (red : Reduced p C S) (red′ : Reduced p C S′) where
+  same-within : ((β : List ℕ) → length β ≡ C → Residues p β → Solves p C S′ (at β) → Solves p C S (at β)) → Within p C S S′
+  same-within h q j l =
+      implied-zero p C S′ (S q)
+      (implied-exactly p C prime S′ (S q) red′ (λ i k. red .residues q i l k) .1 (λ β n r s. h β n r s q l)) j
+
+  meets : Within p C S S′ → (q j : ℕ) → q < C → j ≤ C → S q q ≡ 1
+      → ((r : ℕ) → r < C → r ≢ q → (S q r ≡ 0) ⊎ (S′ r j ≡ 0)) → S q j ≡ S′ q j
+  unfolding residual
+  meets w q j l k one off = cong-residue p (red .residues q j l k) (red′ .residues q j l k) (rw e at (difference (p - 1) (S q j) (S′ q j) (rw e zero)))
+    where
+      three : 3 ≤ p
+      three = oddPrime-means p .0 prime .0
+
+      e : p - 1 + 1 ≡ p
+      e = omega (arith, three)
+
+      nothing : (r : ℕ) → (S q r ≡ 0) ⊎ (S′ r j ≡ 0) → ((p - S q r) * S′ r j) % p ≡ 0
+      nothing r (inl z) = rw (z, sub-zero p) (mul-mod-right p (S′ r j))
+      nothing r (inr z) = rw (z, mul-zero (p - S q r)) (mod-eq-of-lt (omega (arith, three)))
+
+      added : sum (λ r. (p - S q r) * S′ r j) C % p ≡ ((p - 1) * S′ q j) % p
+      added = sum-only-cong p (λ r. (p - S q r) * S′ r j) C q l (λ r i d. nothing r (off r i d)) ∙ rw one
+
+      zero : (S q j + (p - 1) * S′ q j) % p ≡ 0 % p
+      zero = cong-add p (S q j) (S q j) _ _ refl (sym added) ∙ w q j l k ∙ sym (mod-eq-of-lt (omega (arith, three)))
+
+  pivot-stays : Within p C S S′ → (q : ℕ) → q < C → Pivot C S q → Pivot C S′ q
+  pivot-stays w q l v = ⊎-elim (λ z. absurd (apart z)) (λ v′. v′) (red′ .rows q l)
+    where
+      off : (r : ℕ) → r < C → r ≢ q → (S q r ≡ 0) ⊎ (S′ r q ≡ 0)
+      off r k d = elim (decLt r q) [
+        | yes i ↦ inl (v .left r i)
+        | no i ↦ inr (⊎-elim (λ z. z q (le-of-lt l)) (λ v′. v′ .left q (omega arith)) (red′ .rows r k))
+      ]
+
+      apart : ZeroRow C S′ q → ⊥
+      apart z = omega (arith, v .one, z q (le-of-lt l), meets w q q l (le-of-lt l) (v .one) off)
+
+pub reduced-unique : (p C : ℕ) → oddPrime p ≡ true → (S S′ : ℕ → ℕ → ℕ) → Reduced p C S → Reduced p C S′
+    → ((β : List ℕ) → length β ≡ C → Residues p β → (Solves p C S (at β) ↔ Solves p C S′ (at β)))
+    → (q j : ℕ) → q < C → j ≤ C → S q j ≡ S′ q j
+reduced-unique p C prime S S′ red red′ h q j l k =
+    ⊎-elim (λ z. z j k ∙ sym (zero-stays q l z j k)) (λ v. meets p C prime S S′ red red′ w q j l k (v .one) (off v)) (red .rows q l)
+  where
+    w : Within p C S S′
+    w = same-within p C prime S S′ red red′ (λ β n r. h β n r .1)
+
+    w′ : Within p C S′ S
+    w′ = same-within p C prime S′ S red′ red (λ β n r. h β n r .0)
+
+    zero-stays : (r : ℕ) → r < C → ZeroRow C S r → ZeroRow C S′ r
+    zero-stays r i z =
+        ⊎-elim (λ z′. z′)
+        (λ v′. absurd (omega (arith, z r (le-of-lt i), pivot-stays p C prime S′ S red′ red w′ r i v′ .one)))
+        (red′ .rows r i)
+
+    off : Pivot C S q → (r : ℕ) → r < C → r ≢ q → (S q r ≡ 0) ⊎ (S′ r j ≡ 0)
+    off v r i d = ⊎-map (λ z. z) (λ z. zero-stays r i z j k) (off-pivot p C S red q r l i (λ e. d (sym e)))

@@ -1,0 +1,163 @@
+-- `store::elimination::put_row` meets its contract: the pivot is the local array's front, the residual made normal; it clears its column
+-- from the rows above, and is written as row k (`Clearing`). Assumes nothing.
+use mathlib.Core.Path.{_≡_, refl, sym, ap, subst⁻¹, _∙_}
+use mathlib.Core.List.{List, _++_}
+use Prim.Native.Nat.{ℕ, _+_, _-_, _*_, _≤_, _<_}
+use native.Mathlib.Nat.{le-of-lt, mod-lt, mul-le-mul-right}
+use native.Mathlib.Omega.{arith}
+use lib.ListN.{length, take, length-append}
+use lib.Seq.{length-take-le, take-at}
+use borrow.Author.Needs.{needs}
+use Rattle.lists.specs.Places.{at}
+use Rattle.field.specs.Residues.{inverse}
+use Rattle.store.specs.Elimination.{normal, cells}
+use Rattle.store.specs.Stages.{Line}
+use Rattle.store.proofs.Bytes.{flat-length}
+use Rattle.store.proofs.Residuals.{normal-small, normal-zero}
+use Rattle.store.proofs.Pasting.{tail-end, tail-length}
+use Rattle.store.proofs.Clearing.{pivot-length, pivot-line, pivot-at, pivot-before, front-cut, front-residues, row-put}
+use Rattle.store.proofs.elimination.put_row.Statement.{statement}
+use Rattle.store.proofs.elimination.put_row.Tie as tie
+
+add-width : tie.Need-add-width
+add-width c = search needs
+
+shared-slice-read-inverse : tie.Need-shared-slice-read-inverse
+shared-slice-read-inverse c = search needs
+
+inverse-requires : tie.Need-inverse-requires
+inverse-requires c κs = (c .before .before .before .pre .0 .modulus, c .before .before .before .pre .1 .0 .residues (c .before .before .before .args .k))
+
+array-borrow-prefix-pivot : tie.Need-array-borrow-prefix-pivot
+array-borrow-prefix-pivot c = search needs
+
+slice-aggregate-set-multiple : tie.Need-slice-aggregate-set-multiple
+slice-aggregate-set-multiple c = sym (length-take-le (c .before .before .before .before .before .args .c + 1) _ (omega arith))
+
+factor : (c : tie.After-inverse) → c .inverse .result ≤ c .before .before .before .before .args .p
+unfolding inverse
+factor c =
+    let p = c .before .before .before .before .args .p in
+    let pos : 0 < p = omega (arith, c .before .before .before .before .pre .0 .modulus .0) in
+    rw (c .inverse .ensures) (le-of-lt (mod-lt _ pos))
+
+set-multiple-requires : tie.Need-set-multiple-requires
+set-multiple-requires c κs = (c .before .before .before .before .before .pre .0 .modulus, (c .before .before .before .before .before .pre .1 .0 .places ∙ sym (length-take-le (c .before .before .before .before .before .args .c + 1) _ (omega arith)), (c .before .before .before .before .before .pre .1 .0 .residues, factor (c .before))))
+
+-- the pivot, at the array's front
+positive : (c : tie.After-set-multiple) → 0 < c .before .before .before .before .before .before .args .p
+positive c = omega (arith, c .before .before .before .before .before .before .pre .0 .modulus .0)
+
+count : (c : tie.After-set-multiple) → length (c .set-multiple .last .0) ≡ c .before .before .before .before .before .before .args .c + 1
+count c = pivot-length _ _ _ _ _ _ (c .before .before .before .before .before .before .pre .1 .0) (positive c) (c .before .before .inverse .ensures) (c .set-multiple .ensures)
+
+line : (c : tie.After-set-multiple) → Line (c .before .before .before .before .before .before .args .p) (c .before .before .before .before .before .before .args .c) (c .set-multiple .last .0)
+line c = pivot-line _ _ _ _ _ _ (c .before .before .before .before .before .before .pre .1 .0) (positive c) (c .before .before .inverse .ensures) (c .set-multiple .ensures)
+
+before : (c : tie.After-set-multiple) (j : ℕ) → j < c .before .before .before .before .before .before .args .k → at (c .set-multiple .last .0) j ≡ 0
+before c = pivot-before _ _ _ _ _ _ (c .before .before .before .before .before .before .pre .1 .0) (positive c) (c .before .before .inverse .ensures) (c .set-multiple .ensures) (le-of-lt (c .before .before .before .before .before .before .pre .1 .1 .0)) (c .before .before .before .before .before .before .pre .1 .1 .1 .0)
+
+front : (c : tie.After-set-multiple) (rest : List ℕ) → take (c .before .before .before .before .before .before .args .c + 1) (c .set-multiple .last .0 ++ rest) ≡ c .set-multiple .last .0
+front c rest = take-at (c .set-multiple .last .0) rest (c .before .before .before .before .before .before .args .c + 1) (count c)
+
+places : (c : tie.After-set-multiple) (j : ℕ) → j ≤ c .before .before .before .before .before .before .args .c → at (c .set-multiple .last .0) j ≡ normal (c .before .before .before .before .before .before .args .p) (at (c .before .before .before .before .before .before .args .res .now)) (c .before .before .before .before .before .before .args .k) j
+places c = pivot-at _ _ _ _ _ _ (c .before .before .before .before .before .before .pre .1 .0) (positive c) (c .before .before .inverse .ensures) (c .set-multiple .ensures)
+
+long : (c : tie.After-set-multiple) (rest : List ℕ) → c .before .before .before .before .before .before .args .c + 1 ≤ length (c .set-multiple .last .0 ++ rest)
+long c rest = simp length-append (omega (arith, count c))
+
+array-share-prefix-pivot : tie.Need-array-share-prefix-pivot
+array-share-prefix-pivot c = simp length-append (omega (arith, count (c .before .before)))
+
+slice-aggregate-clear-above : tie.Need-slice-aggregate-clear-above
+slice-aggregate-clear-above c = sym (ap length (front (c .before .before .before) _) ∙ count (c .before .before .before))
+
+clear-above-requires : tie.Need-clear-above-requires
+clear-above-requires c κs =
+    let s = c .before .before .before .before .before .before .before .before .before in
+    let e = front (c .before .before .before) _ in (
+      s .pre .0,
+      (
+        subst⁻¹ (Line (s .args .p) (s .args .c)) e (line (c .before .before .before)),
+        (s .pre .1 .1 .0, λ j l. ap (λ (xs : List ℕ). at xs j) e ∙ before (c .before .before .before) j l),
+      ),
+    )
+
+mul-a : tie.Need-mul-a
+mul-a c = omega (arith, mul-le-mul-right (c .before .before .before .before .before .before .before .before .before .before .before .before .args .c + 1) (le-of-lt (c .before .before .before .before .before .before .before .before .before .before .before .before .pre .1 .1 .0)))
+
+add-a : tie.Need-add-a
+add-a c = omega (arith, mul-le-mul-right (c .before .before .before .before .before .before .before .before .before .before .before .before .args .c + 1) (c .before .before .before .before .before .before .before .before .before .before .before .before .pre .1 .1 .0), c .before .before .before .before .before .before .before .before .before .before .before .before .pre .0 .places)
+
+mul-end : tie.Need-mul-end
+mul-end c = omega (arith, mul-le-mul-right (c .before .before .before .before .before .before .before .before .before .before .before .before .args .c + 1) (c .before .before .before .before .before .before .before .before .before .before .before .before .pre .1 .1 .0), c .before .before .before .before .before .before .before .before .before .before .before .before .pre .0 .places)
+
+add-end : tie.Need-add-end
+add-end c = omega (arith, mul-le-mul-right (c .before .before .before .before .before .before .before .before .before .before .before .before .args .c + 1) (c .before .before .before .before .before .before .before .before .before .before .before .before .pre .1 .1 .0), c .before .before .before .before .before .before .before .before .before .before .before .before .pre .0 .places)
+
+sub-set-multiple : tie.Need-sub-set-multiple
+sub-set-multiple c = search needs
+
+part-set-multiple-start : tie.Need-part-set-multiple-start
+part-set-multiple-start c = search needs
+
+part-set-multiple-end : tie.Need-part-set-multiple-end
+part-set-multiple-end c = tail-end (c .before .before .before .before .before .before .before .before .before .before .before .before .args .c) (c .before .before .clear-above .last .0) (c .before .before .before .before .before .before .before .before .before .before .before .before .args .k) (c .before .before .before .before .before .before .before .before .before .before .before .before .args .k) (c .before .before .before .before .before .before .before .before .before .before .before .before .args .k * (c .before .before .before .before .before .before .before .before .before .before .before .before .args .c + 1)) (ap length (c .before .before .clear-above .ensures) ∙ flat-length _ _) (c .before .before .before .before .before .before .before .before .before .before .before .before .pre .1 .1 .0) (le-of-lt (c .before .before .before .before .before .before .before .before .before .before .before .before .pre .1 .1 .0)) refl
+
+sub-set-multiple-2 : tie.Need-sub-set-multiple-2
+sub-set-multiple-2 c = search needs
+
+part-set-multiple-start-2 : tie.Need-part-set-multiple-start-2
+part-set-multiple-start-2 c = search needs
+
+part-set-multiple-end-2 : tie.Need-part-set-multiple-end-2
+part-set-multiple-end-2 c = long (c .before .before .before .before .before .before .before .before) _
+
+set-multiple-requires-2 : tie.Need-set-multiple-requires-2
+set-multiple-requires-2 c κs =
+    let s = c .before .before .before .before .before .before .before .before .before .before .before .before .before .before .before in
+    let k = s .args .k in
+    let l = s .pre .1 .1 .0 in
+    let pos : 0 < s .args .p = omega (arith, s .pre .0 .modulus .0) in
+    let tail = tail-length (s .args .c) (c .before .before .before .before .before .clear-above .last .0) k k (k * (s .args .c + 1)) (ap length (c .before .before .before .before .before .clear-above .ensures) ∙ flat-length _ _) l (le-of-lt l) refl in
+    (s .pre .0 .modulus, (front-cut _ _ (c .before .before .before .before .before .before .before .before .before .set-multiple .last .0) _ (count (c .before .before .before .before .before .before .before .before .before)) (le-of-lt l) ∙ sym tail, (front-residues _ _ (c .before .before .before .before .before .before .before .before .before .set-multiple .last .0) _ (count (c .before .before .before .before .before .before .before .before .before)) (le-of-lt l) _ pos (line (c .before .before .before .before .before .before .before .before .before) .residues), pos)))
+
+same-length : tie.Need-same-length
+same-length c = search needs
+
+returns : tie.Need-returns
+returns c =
+    let s = c .before .before .before .before .before .before .before .before .before .before .before .before .before .before .before .before .before .before in
+    let k = s .args .k in
+    let l = s .pre .1 .1 .0 in
+    let pos : 0 < s .args .p = omega (arith, s .pre .0 .modulus .0) in
+    row-put _ _ _ (normal (s .args .p) (at (s .args .res .now)) k) k (s .pre .0 .reduced) l (s .pre .1 .1 .1 .1)
+    (λ j. normal-small (s .args .p) (at (s .args .res .now)) k j pos) (λ j b. normal-zero (s .args .p) (at (s .args .res .now)) k j pos (s .pre .1 .1 .1 .0 j b))
+    _ _ _ (long (c .before .before .before .before .before .before .before .before .before .before .before .before) _) (λ j b. ap (λ (xs : List ℕ). at xs j) (front (c .before .before .before .before .before .before .before .before .before .before .before .before) _) ∙ places (c .before .before .before .before .before .before .before .before .before .before .before .before) j b) (c .before .before .before .before .before .before .before .before .clear-above .ensures) (c .before .before .set-multiple2 .ensures)
+
+pub put-row-spec : {M : Type 1} → statement M
+put-row-spec =
+    tie.close
+    (tie.spec
+    add-width
+    shared-slice-read-inverse
+    inverse-requires
+    array-borrow-prefix-pivot
+    slice-aggregate-set-multiple
+    set-multiple-requires
+    array-share-prefix-pivot
+    slice-aggregate-clear-above
+    clear-above-requires
+    mul-a
+    add-a
+    mul-end
+    add-end
+    sub-set-multiple
+    part-set-multiple-start
+    part-set-multiple-end
+    sub-set-multiple-2
+    part-set-multiple-start-2
+    part-set-multiple-end-2
+    set-multiple-requires-2
+    same-length
+    returns)

@@ -1,0 +1,164 @@
+-- `store::entry::file` meets its contract: each return is the first cause met (`Refusals` of plan), and only the last one may have written
+-- the store (`StoreCalls`). Assumes nothing.
+use mathlib.Core.Path.{_≡_, refl, sym, ap, _∙_}
+use mathlib.Core.Bool.{true}
+use Prim.Native.Nat.{ℕ, _+_, _*_}
+use native.Mathlib.Nat.{pos-of-ne-zero}
+use native.Mathlib.Omega.{arith}
+use lib.Dec.{eqb}
+use lib.ListN.{length}
+use borrow.Author.Tests.{eqb-true, le-ltb, lt-ltb, not-true, not-false}
+use borrow.Author.Needs.{needs}
+use Rattle.plan.specs.Causes.{first}
+use Rattle.plan.specs.Numbers.{columns, checked}
+use Rattle.plan.specs.Parts.{partCauses}
+use Rattle.plan.specs.declared.numbers.Checked.the-variants.{Accepted, Refused}
+use Rattle.plan.proofs.Bounds.{modulus}
+use Rattle.plan.proofs.Refusals.{lent-of, call-plan, call-within, call-numbers, call-parts, call-passed}
+use Rattle.store.specs.Elimination.{isReduced, cells}
+use Rattle.store.specs.Calls.{storeFits, fileCauses}
+use Rattle.store.proofs.StoreCalls.{columns-small, square-small, ready-of, refused-call, filed-call}
+use Rattle.store.proofs.entry.file.Statement.{statement}
+use Rattle.store.proofs.entry.file.Tie as tie
+
+new-requires : tie.Need-new-requires
+new-requires c κs = search needs
+
+enum-known-k : tie.Need-enum-known-k
+enum-known-k c = search needs
+
+enum-known-plan : tie.Need-enum-known-plan
+enum-known-plan c = search needs
+
+refused : (c : tie.After-k) → checked (c .before .before .before .before .before .before .before .args .p) (c .before .before .before .before .before .before .before .args .s) (c .before .before .before .before .before .before .before .args .n) (c .before .before .before .before .before .before .before .args .m) (c .before .before .before .before .before .before .before .args .t) ≡ Refused (c .k .given .0 .0)
+refused c = sym (c .before .before .new .ensures) ∙ c .k .given .1
+
+accepted : (c : tie.After-plan) → checked (c .before .before .before .before .before .before .before .args .p) (c .before .before .before .before .before .before .before .args .s) (c .before .before .before .before .before .before .before .args .n) (c .before .before .before .before .before .before .before .args .m) (c .before .before .before .before .before .before .before .args .t) ≡ Accepted (c .plan .given .0 .0)
+accepted c = sym (c .before .before .new .ensures) ∙ c .plan .given .1
+
+columns-requires : tie.Need-columns-requires
+columns-requires c κs = call-within _ _ _ _ _ (accepted (c .before))
+
+add-part-refusal : tie.Need-add-part-refusal
+add-part-refusal c = omega (arith, columns-small (c .columns .result) (call-within _ _ _ _ _ (accepted (c .before .before))) (c .columns .ensures))
+
+mul-part-refusal : tie.Need-mul-part-refusal
+mul-part-refusal c = omega (arith, square-small (c .columns .result) (columns-small (c .columns .result) (call-within _ _ _ _ _ (accepted (c .before .before))) (c .columns .ensures)))
+
+part-refusal-requires : tie.Need-part-refusal-requires
+part-refusal-requires c κs = call-within _ _ _ _ _ (accepted (c .before .before))
+
+-- the parts' refusal, with the call's own part against the plan's columns
+parts : (c : tie.After-part-refusal) → c .part-refusal .result ≡ first (partCauses (c .before .before .before .plan .given .0 .0) (c .before .before .before .before .before .before .before .before .before .before .args .weights .now) (c .before .before .before .before .before .before .before .before .before .before .args .tables .now) (c .before .before .before .before .before .before .before .before .before .before .args .d .now) (storeFits (c .before .before .before .plan .given .0 .0) (c .before .before .before .before .before .before .before .before .before .before .args .store .now)))
+parts c = c .part-refusal .ensures ∙ ap (λ (n : ℕ). first (partCauses (c .before .before .before .plan .given .0 .0) (c .before .before .before .before .before .before .before .before .before .before .args .weights .now) (c .before .before .before .before .before .before .before .before .before .before .args .tables .now) (c .before .before .before .before .before .before .before .before .before .before .args .d .now) (eqb (length (c .before .before .before .before .before .before .before .before .before .before .args .store .now)) (n * (n + 1))))) (c .before .columns .ensures)
+
+returns : tie.Need-returns
+unfolding fileCauses
+returns c =
+    let pos = pos-of-ne-zero (c .if1 .taken) in
+    refused-call _ _ _ _ _ (call-parts _ _ _ _ _ _ _ _ _ _ _ (accepted (c .before .before .before .before)) _ (parts (c .before)) pos) pos
+
+is-reduced-requires : tie.Need-is-reduced-requires
+is-reduced-requires c κs =
+    let within = call-within _ _ _ _ _ (accepted (c .before .before .before .before .before)) in
+    let fits = lent-of _ _ _ _ _ within (sym (c .before .before .part-refusal .ensures) ∙ c .before .if1 .left) .1 in
+    (columns-small _ within (c .before .before .before .columns .ensures), (modulus within, eqb-true _ _ fits))
+
+reduced : (c : tie.After-is-reduced) → c .is-reduced .result ≡ isReduced (c .before .before .before .before .before .before .plan .given .0 .0 .p) (columns (c .before .before .before .before .before .before .plan .given .0 .0)) (cells (columns (c .before .before .before .before .before .before .plan .given .0 .0)) (c .before .before .before .before .before .before .before .before .before .before .before .before .before .args .store .now))
+reduced c = c .is-reduced .ensures ∙ ap (λ (n : ℕ). isReduced (c .before .before .before .before .before .before .plan .given .0 .0 .p) n (cells n (c .before .before .before .before .before .before .before .before .before .before .before .before .before .args .store .now))) (c .before .before .before .before .columns .ensures)
+
+passing : (c : tie.Else2) → isReduced (c .before .before .before .before .before .before .before .plan .given .0 .0 .p) (columns (c .before .before .before .before .before .before .before .plan .given .0 .0)) (cells (columns (c .before .before .before .before .before .before .before .plan .given .0 .0)) (c .before .before .before .before .before .before .before .before .before .before .before .before .before .before .args .store .now)) ≡ true
+passing c = sym (reduced (c .before)) ∙ not-false (c .before .is-reduced .result) (c .if2 .left)
+
+same-length : tie.Need-same-length
+same-length c = search needs
+
+returns-2 : tie.Need-returns-2
+unfolding fileCauses
+returns-2 c =
+    refused-call _ 6 _ _ _
+    (sym (call-passed _ _ _ _ _ _ _ _ _ _ _ (accepted (c .before .before .before .before .before .before .before)) (sym (c .before .before .before .if1 .left) ∙ parts (c .before .before .before .before)) ∙ rw (sym (reduced (c .before)) ∙ not-true (c .before .is-reduced .result) (c .if2 .taken))))
+    (omega arith)
+
+entries-requires : tie.Need-entries-requires
+entries-requires c κs = call-within _ _ _ _ _ (accepted (c .before .before .before .before .before .before .before))
+
+same-length-2 : tie.Need-same-length-2
+same-length-2 c = search needs
+
+returns-3 : tie.Need-returns-3
+unfolding fileCauses
+returns-3 c =
+    let far = rw (c .before .entries .ensures) at (c .if3 .taken) in
+    refused-call _ 7 _ _ _
+    (sym (call-passed _ _ _ _ _ _ _ _ _ _ _ (accepted (c .before .before .before .before .before .before .before .before .before)) (sym (c .before .before .before .before .before .if1 .left) ∙ parts (c .before .before .before .before .before .before)) ∙ rw (passing (c .before .before), le-ltb _ _ far)))
+    (omega arith)
+
+cast-if4 : tie.Need-cast-if4
+cast-if4 c = search needs
+
+same-length-3 : tie.Need-same-length-3
+same-length-3 c = search needs
+
+returns-4 : tie.Need-returns-4
+unfolding fileCauses
+returns-4 c =
+    let near = rw (c .before .before .before .entries .ensures) at (c .before .before .if3 .left) in
+    refused-call _ 8 _ _ _
+    (sym (call-passed _ _ _ _ _ _ _ _ _ _ _ (accepted (c .before .before .before .before .before .before .before .before .before .before .before)) (sym (c .before .before .before .before .before .before .before .if1 .left) ∙ parts (c .before .before .before .before .before .before .before .before)) ∙ rw (passing (c .before .before .before .before), lt-ltb _ _ near, le-ltb _ _ (c .if4 .taken))))
+    (omega arith)
+
+cast-file-entry : tie.Need-cast-file-entry
+cast-file-entry c = search needs
+
+file-entry-requires : tie.Need-file-entry-requires
+file-entry-requires c κs =
+    let within = call-within _ _ _ _ _ (accepted (c .before .before .before .before .before .before .before .before .before .before .before .before)) in
+    let lent = lent-of _ _ _ _ _ within (sym (parts (c .before .before .before .before .before .before .before .before .before)) ∙ c .before .before .before .before .before .before .before .before .if1 .left) in
+    (within, (lent .0, (ready-of _ _ within (eqb-true _ _ (lent .1)) (passing (c .before .before .before .before .before)), omega (arith, within .radix-high))))
+
+returns-5 : tie.Need-returns-5
+unfolding fileCauses
+returns-5 c =
+    let r = call-numbers _ _ _ _ _ _ _ _ _ _ _ (refused (c .before)) in
+    refused-call _ _ _ _ _ (r .0) (r .1)
+
+same-length-4 : tie.Need-same-length-4
+same-length-4 c = search needs
+
+returns-6 : tie.Need-returns-6
+unfolding fileCauses
+returns-6 c =
+    let near = rw (c .before .before .before .before .before .before .before .entries .ensures) at (c .before .before .before .before .before .before .if3 .left) in
+    let within = call-within _ _ _ _ _ (accepted (c .before .before .before .before .before .before .before .before .before .before .before .before .before .before .before)) in
+    let lent = lent-of _ _ _ _ _ within (sym (parts (c .before .before .before .before .before .before .before .before .before .before .before .before)) ∙ c .before .before .before .before .before .before .before .before .before .before .before .if1 .left) in
+    filed-call _ _ _ _ _ _ _ _ _ _ _ (call-plan _ _ _ _ _ (accepted (c .before .before .before .before .before .before .before .before .before .before .before .before .before .before .before))) (eqb-true _ _ (lent .1))
+    (call-passed _ _ _ _ _ _ _ _ _ _ _ (accepted (c .before .before .before .before .before .before .before .before .before .before .before .before .before .before .before)) (sym (c .before .before .before .before .before .before .before .before .before .before .before .if1 .left) ∙ parts (c .before .before .before .before .before .before .before .before .before .before .before .before)) ∙ rw (passing (c .before .before .before .before .before .before .before .before), lt-ltb _ _ near, lt-ltb _ _ (c .before .before .before .before .if4 .left)))
+    (c .before .before .file-entry .ensures .0) (c .before .before .file-entry .ensures .1)
+
+pub file-spec : {M : Type 1} → statement M
+file-spec =
+    tie.close
+    (tie.spec
+    new-requires
+    enum-known-k
+    enum-known-plan
+    columns-requires
+    add-part-refusal
+    mul-part-refusal
+    part-refusal-requires
+    returns
+    is-reduced-requires
+    same-length
+    returns-2
+    entries-requires
+    same-length-2
+    returns-3
+    cast-if4
+    same-length-3
+    returns-4
+    cast-file-entry
+    file-entry-requires
+    returns-5
+    same-length-4
+    returns-6)

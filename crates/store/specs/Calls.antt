@@ -1,0 +1,71 @@
+-- The calls on a store: what each answers and leaves, and the causes it can meet, in number order (01, "The store" and "Turned down").
+--     equation P w T d i v       entry i with value v as an equation: row i, then v
+--     storeFits P store          the store has C rows of C+1 bytes
+--     storeCause P store         6, "store not in reduced form"
+--     valueCause P v             8, "value not below s"
+--     conflictCause ..           9, "contradiction"
+--     testCauses, fileCauses, coefficientsCauses       the causes of each call
+--     answered k o               what filing answers, from its refusal k and its outcome o: `New` with the pivot column, `Implied`, or `Refused` with 01's number
+--     numberOf                   01's number for each case of that answer, 0 where the entry is kept
+--     filed                      the store after filing
+--     coefficients C store       the coefficients read off: "coefficient q is the right-hand side of row q"
+use mathlib.Core.Bool.{Bool, not, _&&_}
+use mathlib.Core.List.{List, [], _∷_, _++_}
+use Prim.Native.Nat.{ℕ, zero, suc, _+_, _*_}
+use lib.Dec.{eqb, ltb}
+use lib.ListN.{length}
+use Rattle.lists.specs.Places.{tab, at}
+use Rattle.plan.specs.declared.numbers.Plan.{Plan}
+use Rattle.plan.specs.Numbers.{columns}
+use Rattle.plan.specs.Parts.{callCauses}
+use Rattle.plan.specs.Rows.{row, entryCause}
+use Rattle.store.specs.Elimination.{Outcome, new, implied, contradiction, isReduced, outcome, after, readOff, cells, flat}
+use Rattle.store.specs.Filings.{isContradiction}
+use Rattle.store.specs.declared.elimination.Filed.{Filed}
+use Rattle.store.specs.declared.elimination.Filed.the-variants.{New, Implied, Refused}
+
+abbrev pub equation : Plan → List ℕ → List ℕ → List ℕ → ℕ → ℕ → ℕ → ℕ
+equation P w T d i v = at (row P w T d i ++ (v ∷ []))
+
+abbrev pub storeFits : Plan → List ℕ → Bool
+storeFits P store = eqb (length store) (columns P * (columns P + 1))
+
+abbrev pub storeCause : Plan → List ℕ → ℕ × Bool
+storeCause P store = (6, not (isReduced (P .p) (columns P) (cells (columns P) store)))
+
+abbrev pub valueCause : Plan → ℕ → ℕ × Bool
+valueCause P v = (8, not (ltb v (P .s)))
+
+abbrev pub conflictCause : Plan → List ℕ → List ℕ → List ℕ → List ℕ → ℕ → ℕ → ℕ × Bool
+conflictCause P w T d store i v =
+    (9, isContradiction (outcome (P .p) (columns P) (cells (columns P) store) (equation P w T d i v)))
+
+unfoldable pub testCauses : ℕ → ℕ → ℕ → ℕ → ℕ → List ℕ → List ℕ → List ℕ → List ℕ → List (ℕ × Bool)
+testCauses p s n m t w T d store = callCauses p s n m t w T d (λ P. storeFits P store) (λ P. storeCause P store ∷ [])
+
+unfoldable pub fileCauses : ℕ → ℕ → ℕ → ℕ → ℕ → List ℕ → List ℕ → List ℕ → List ℕ → ℕ → ℕ → List (ℕ × Bool)
+fileCauses p s n m t w T d store i v =
+    callCauses p s n m t w T d (λ P. storeFits P store)
+    (λ P. storeCause P store ∷ entryCause P i ∷ valueCause P v ∷ conflictCause P w T d store i v ∷ [])
+
+unfoldable pub coefficientsCauses : ℕ → ℕ → ℕ → ℕ → ℕ → List ℕ → List ℕ → List ℕ → List ℕ → List ℕ → List (ℕ × Bool)
+coefficientsCauses p s n m t w T d store β =
+    callCauses p s n m t w T d (λ P. storeFits P store && eqb (length β) (columns P)) (λ P. storeCause P store ∷ [])
+
+unfoldable pub answered : ℕ → Outcome → Filed
+answered zero (new c) = New c
+answered zero implied = Implied
+answered zero contradiction = Refused 9
+answered (suc k) o = Refused (suc k)
+
+abbrev pub numberOf : Filed → ℕ
+numberOf (New c) = 0
+numberOf Implied = 0
+numberOf (Refused k) = k
+
+unfoldable pub filed : Plan → List ℕ → List ℕ → List ℕ → List ℕ → ℕ → ℕ → List ℕ
+filed P w T d store i v =
+    flat (columns P) (after (P .p) (columns P) (cells (columns P) store) (equation P w T d i v))
+
+unfoldable pub coefficients : ℕ → List ℕ → List ℕ
+coefficients C store = tab C (readOff C (cells C store))

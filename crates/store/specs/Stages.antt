@@ -1,0 +1,30 @@
+-- The stages of a filing, as the code goes through them.
+--     Ready p C store        the store that an equation is filed into: C rows of C + 1 bytes, in reduced form
+--     Line p C xs            a line of the store or an equation: C + 1 residues
+--     deferred p S e n j     e less its coefficients times the first n rows, at place j, with nothing reduced yet
+--     cleared p S N c r j    column c cleared by N from the rows above row c alone
+use mathlib.Core.Path.{_≡_}
+use mathlib.Core.Bool.{cond}
+use mathlib.Core.List.{List}
+use Prim.Native.Nat.{ℕ, _+_, _-_, _*_, _%_, _≤_}
+use lib.Dec.{ltb}
+use lib.ListN.{length}
+use Rattle.lists.specs.Places.{sum}
+use Rattle.field.specs.Residues.{Modulus, Residues}
+use Rattle.store.specs.Elimination.{Reduced, cells}
+
+pub record Ready (p C : ℕ) (store : List ℕ) : Type 0 where
+  pub modulus : Modulus p
+  pub limit : C ≤ 1024
+  pub places : length store ≡ C * (C + 1)
+  pub reduced : Reduced p C (cells C store)
+
+pub record Line (p C : ℕ) (xs : List ℕ) : Type 0 where
+  pub places : length xs ≡ C + 1
+  pub residues : Residues p xs
+
+unfoldable pub deferred : ℕ → (ℕ → ℕ → ℕ) → (ℕ → ℕ) → ℕ → ℕ → ℕ
+deferred p S e n j = e j + sum (λ q. (p - e q) % p * S q j) n
+
+unfoldable pub cleared : ℕ → (ℕ → ℕ → ℕ) → (ℕ → ℕ) → ℕ → ℕ → ℕ → ℕ
+cleared p S N c r j = cond (ltb r c) ((S r j + (p - S r c) * N j) % p) (S r j)

@@ -1,0 +1,201 @@
+// Filing an equation into a store in reduced form.
+ghost use mathlib.Core.Path.{_≡_};
+ghost use Prim.Native.Nat.{ℕ, _+_, _-_, _*_, _%_, _≤_, _<_};
+ghost use lib.ListN.{length};
+ghost use Rattle.lists.specs.Places.{tab, at};
+ghost use Rattle.field.specs.Residues.{Modulus, Residues};
+ghost use Rattle.field.specs.Rows.{plusTimes, plusMultiple};
+ghost use Rattle.plan.specs.Numbers.{Within, columns};
+ghost use Rattle.plan.specs.Parts.{Lent};
+ghost use Rattle.store.specs.Elimination as specs;
+ghost use Rattle.store.specs.Elimination.{cells, flat};
+ghost use Rattle.store.specs.Stages.{Ready, Line, deferred, cleared};
+ghost use Rattle.store.specs.Calls as calls;
+use plan::Plan;
+
+// What filing answers: the pivot column of a new equation, an equation that the store implies already, or the number of the refusal.
+pub enum Filed {
+    New(usize),
+    Implied,
+    Refused(u8),
+}
+
+// acc less f times a row, both from the row's own column on: f's negative times the row is added. A row that begins with 0 is zero.
+fn subtract_row(acc: &mut [u32], row: &[u8], f: u8, p: u8)
+    requires { ⌜ f < p ⌝ }
+    requires { ⌜ (length (now row) ≡ length (now acc)) × (0 < length (now row)) ⌝ }
+    requires { ⌜ Residues 4294902271 (now acc) ⌝ }
+    requires { ⌜ (at (now row) 0 ≡ 0 → (j : ℕ) → at (now row) j ≡ 0) ⌝ }
+    ensures { λ _. ⌜ now (acc .exit) ≡ plusTimes ((p - f) % p) (now (acc .entry)) (now (row .entry)) ⌝ }
+{
+    if f == 0 {
+        return;
+    }
+    if row[0] == 0 {
+        return;
+    }
+    field::accumulate(acc, row, p - f);
+}
+
+// The residual of e with nothing reduced yet: C products of two residues fit in 32 bits.
+fn defer(acc: &mut [u32], store: &[u8], e: &[u8], c: usize, p: u8)
+    requires { ⌜ Ready p c (now store) ⌝ }
+    requires { ⌜ Line p c (now e) ⌝ }
+    requires { ⌜ now acc ≡ tab (c + 1) (λ _. 0) ⌝ }
+    ensures { λ _. ⌜ now (acc .exit) ≡ tab (c + 1) (deferred p (cells c (now (store .entry))) (at (now (e .entry))) c) ⌝ }
+{
+    field::accumulate(acc, e, 1);
+    let width = c + 1;
+    let mut begin: usize = 0;
+    let mut q: usize = 0;
+    while q < c {
+        let a = begin + q;
+        let end = begin + width;
+        subtract_row(&mut acc[q..width], &store[a..end], e[q], p);
+        begin = end;
+        q += 1;
+    }
+}
+
+// The residual of e, into out: all sums first, and one reduction.
+fn residual(out: &mut [u8], store: &[u8], e: &[u8], c: usize, p: u8)
+    requires { ⌜ Ready p c (now store) ⌝ }
+    requires { ⌜ Line p c (now e) ⌝ }
+    requires { ⌜ length (now out) ≡ c + 1 ⌝ }
+    ensures { λ _. ⌜ now (out .exit) ≡ tab (c + 1) (specs.residual p c (cells c (now (store .entry))) (at (now (e .entry)))) ⌝ }
+{
+    let mut acc = [0u32; 1025];
+    let width = c + 1;
+    defer(&mut acc[..width], store, e, c, p);
+    field::reduce(out, &acc[..width], p);
+}
+
+// The first place at which xs is not 0, or its length where there is none.
+fn lead(xs: &[u8]) -> usize
+    ensures { λ r. ⌜ r ≡ specs.lead (at (now (xs .entry))) (length (now (xs .entry))) ⌝ }
+{
+    let mut j: usize = 0;
+    while j < xs.len() {
+        if xs[j] != 0 {
+            return j;
+        }
+        j += 1;
+    }
+    j
+}
+
+// A row's first place cleared by the pivot, both from the pivot's column on. A row that has 0 there stays as it is.
+fn clear_row(row: &mut [u8], pivot: &[u8], p: u8)
+    requires { ⌜ Modulus p ⌝ }
+    requires { ⌜ (length (now pivot) ≡ length (now row)) × (0 < length (now row)) ⌝ }
+    requires { ⌜ Residues p (now row) × Residues p (now pivot) ⌝ }
+    ensures { λ _. ⌜ now (row .exit) ≡ plusMultiple p (p - at (now (row .entry)) 0) (now (row .entry)) (now (pivot .entry)) ⌝ }
+{
+    let f = row[0];
+    if f == 0 {
+        return;
+    }
+    field::add_multiple(row, pivot, p - f, p);
+}
+
+// Column k cleared by the pivot from the rows above k. The rows below have 0 there.
+fn clear_above(store: &mut [u8], pivot: &[u8], k: usize, c: usize, p: u8)
+    requires { ⌜ Ready p c (now store) ⌝ }
+    requires { ⌜ Line p c (now pivot) ⌝ }
+    requires { ⌜ k < c ⌝ }
+    requires { ⌜ ((j : ℕ) → j < k → at (now pivot) j ≡ 0) ⌝ }
+    ensures { λ _. ⌜ now (store .exit) ≡ flat c (cleared p (cells c (now (store .entry))) (at (now (pivot .entry))) k) ⌝ }
+{
+    let width = c + 1;
+    let mut begin: usize = 0;
+    let mut r: usize = 0;
+    while r < k {
+        let a = begin + k;
+        let end = begin + width;
+        clear_row(&mut store[a..end], &pivot[k..width], p);
+        begin = end;
+        r += 1;
+    }
+}
+
+// The residual res put in as row k, the column of its first coefficient, whose row is free: made normal, and column k cleared.
+fn put_row(store: &mut [u8], res: &[u8], k: usize, c: usize, p: u8)
+    requires { ⌜ Ready p c (now store) ⌝ }
+    requires { ⌜ Line p c (now res) ⌝ }
+    requires { ⌜ k < c ⌝ }
+    requires { ⌜ ((j : ℕ) → j < k → at (now res) j ≡ 0) ⌝ }
+    requires { ⌜ specs.ZeroRow c (cells c (now store)) k ⌝ }
+    ensures { λ _. ⌜ now (store .exit) ≡ flat c (specs.put p (cells c (now (store .entry))) (specs.normal p (at (now (res .entry))) k) k) ⌝ }
+{
+    let mut pivot = [0u8; 1025];
+    let width = c + 1;
+    let g = field::inverse(res[k], p);
+    field::set_multiple(&mut pivot[..width], res, g, p);
+    clear_above(store, &pivot[..width], k, c, p);
+    let a = k * width + k;
+    let end = k * width + width;
+    field::set_multiple(&mut store[a..end], &pivot[k..width], 1, p);
+}
+
+// Files the equation e, C coefficients and a right-hand side. The store is written only where e is new.
+pub fn file_equation(store: &mut [u8], e: &[u8], c: usize, p: u8) -> Filed
+    requires { ⌜ Ready p c (now store) ⌝ }
+    requires { ⌜ Line p c (now e) ⌝ }
+    ensures { λ r. ⌜ r ≡ calls.answered 0 (specs.outcome p c (cells c (now (store .entry))) (at (now (e .entry)))) ⌝ }
+    ensures { λ r. ⌜ now (store .exit) ≡ flat c (specs.after p c (cells c (now (store .entry))) (at (now (e .entry)))) ⌝ }
+{
+    let mut res = [0u8; 1025];
+    let width = c + 1;
+    residual(&mut res[..width], store, e, c, p);
+    let k = lead(&res[..c]);
+    if k < c {
+        put_row(store, &res[..width], k, c, p);
+        return Filed::New(k);
+    }
+    if res[c] != 0 {
+        return Filed::Refused(9);
+    }
+    Filed::Implied
+}
+
+// Files entry `entry` with `value`: its row, then the value.
+pub fn file_entry(
+    plan: Plan,
+    weights: &[u8],
+    tables: &[u8],
+    d: &[u8],
+    store: &mut [u8],
+    entry: usize,
+    value: u8,
+) -> Filed
+    requires { ⌜ Within plan ⌝ }
+    requires { ⌜ Lent plan (now weights) (now tables) (now d) ⌝ }
+    requires { ⌜ Ready (plan .p) (columns plan) (now store) ⌝ }
+    requires { ⌜ value < plan .p ⌝ }
+    ensures { λ r. ⌜ r ≡ calls.answered 0 (specs.outcome (plan .p) (columns plan) (cells (columns plan) (now (store .entry))) (calls.equation plan (now (weights .entry)) (now (tables .entry)) (now (d .entry)) entry value)) ⌝ }
+    ensures { λ r. ⌜ now (store .exit) ≡ calls.filed plan (now (weights .entry)) (now (tables .entry)) (now (d .entry)) (now (store .entry)) entry value ⌝ }
+{
+    let mut row = [0u8; 1025];
+    let c = plan.columns();
+    plan::fill_row(plan, weights, tables, d, entry, &mut row[..c]);
+    row[c] = value;
+    let width = c + 1;
+    file_equation(store, &row[..width], c, plan.p)
+}
+
+// The coefficients read off: the right-hand side of each row.
+pub fn read_off(store: &[u8], c: usize, beta: &mut [u8])
+    requires { ⌜ c ≤ 1024 ⌝ }
+    requires { ⌜ length (now store) ≡ c * (c + 1) ⌝ }
+    requires { ⌜ length (now beta) ≡ c ⌝ }
+    ensures { λ _. ⌜ now (beta .exit) ≡ calls.coefficients c (now (store .entry)) ⌝ }
+{
+    let width = c + 1;
+    let mut a = c;
+    let mut q: usize = 0;
+    while q < c {
+        beta[q] = store[a];
+        a += width;
+        q += 1;
+    }
+}

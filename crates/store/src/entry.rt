@@ -1,0 +1,136 @@
+// The entry points: any numbers and bytes are taken. Each tests the causes it can meet in number order, and a refusal leaves what was lent
+// as it was.
+ghost use mathlib.Core.Path.{_≡_};
+ghost use mathlib.Core.Bool.{_&&_};
+ghost use Prim.Native.Nat.{_+_, _*_, _≤_};
+ghost use lib.Dec.{eqb};
+ghost use Rattle.plan.specs.Causes.{first, result};
+ghost use Rattle.plan.specs.Numbers.{plan, columns};
+ghost use Rattle.store.specs.Elimination.{outcome, cells};
+ghost use Rattle.store.specs.Calls as specs;
+use crate::elimination::Filed;
+use crate::elimination::file_entry;
+use crate::elimination::read_off;
+use crate::reduced::is_reduced;
+use plan::Checked;
+use plan::Plan;
+use plan::part_refusal;
+
+// Tests a store: causes 1 2 3 4 5 6.
+pub fn test(
+    p: usize,
+    s: usize,
+    n: usize,
+    m: usize,
+    t: usize,
+    weights: &[u8],
+    tables: &[u8],
+    d: &[u8],
+    store: &[u8],
+) -> u8
+    ensures { λ r. ⌜ r ≡ first (specs.testCauses p s n m t (now (weights .entry)) (now (tables .entry)) (now (d .entry)) (now (store .entry))) ⌝ }
+{
+    match Plan::new(p, s, n, m, t) {
+        Checked::Refused(k) => k,
+        Checked::Accepted(plan) => {
+            let c = plan.columns();
+            let k = part_refusal(plan, weights, tables, d, store.len() == c * (c + 1));
+            if k != 0 {
+                return k;
+            }
+            if !is_reduced(store, c, plan.p) {
+                return 6;
+            }
+            0
+        }
+    }
+}
+
+// Files an entry with its value into a store: causes 1 to 9. The store is written only where the entry is new.
+pub fn file(
+    p: usize,
+    s: usize,
+    n: usize,
+    m: usize,
+    t: usize,
+    weights: &[u8],
+    tables: &[u8],
+    d: &[u8],
+    store: &mut [u8],
+    entry: usize,
+    value: usize,
+) -> Filed
+    ensures { λ r. ⌜ r ≡ specs.answered (first (specs.fileCauses p s n m t (now (weights .entry)) (now (tables .entry)) (now (d .entry)) (now (store .entry)) entry value)) (outcome p (columns (plan p s n m t)) (cells (columns (plan p s n m t)) (now (store .entry))) (specs.equation (plan p s n m t) (now (weights .entry)) (now (tables .entry)) (now (d .entry)) entry value)) ⌝ }
+    ensures { λ r. ⌜ now (store .exit) ≡ result (first (specs.fileCauses p s n m t (now (weights .entry)) (now (tables .entry)) (now (d .entry)) (now (store .entry)) entry value)) (specs.filed (plan p s n m t) (now (weights .entry)) (now (tables .entry)) (now (d .entry)) (now (store .entry)) entry value) (now (store .entry)) ⌝ }
+{
+    match Plan::new(p, s, n, m, t) {
+        Checked::Refused(k) => Filed::Refused(k),
+        Checked::Accepted(plan) => {
+            let c = plan.columns();
+            let k = part_refusal(plan, weights, tables, d, store.len() == c * (c + 1));
+            if k != 0 {
+                return Filed::Refused(k);
+            }
+            if !is_reduced(store, c, plan.p) {
+                return Filed::Refused(6);
+            }
+            if plan.entries() <= entry {
+                return Filed::Refused(7);
+            }
+            if (plan.s as usize) <= value {
+                return Filed::Refused(8);
+            }
+            file_entry(plan, weights, tables, d, store, entry, value as u8)
+        }
+    }
+}
+
+// Whether a store and a slice for coefficients, by their lengths, are those of C columns.
+fn both_fit(store: usize, beta: usize, c: usize) -> bool
+    requires { ⌜ c ≤ 1024 ⌝ }
+    ensures { λ r. ⌜ r ≡ (eqb store (c * (c + 1)) && eqb beta c) ⌝ }
+{
+    if store != c * (c + 1) {
+        return false;
+    }
+    beta == c
+}
+
+// Reads the coefficients off a store into `beta`, of exactly C bytes: causes 1 2 3 4 5 6.
+pub fn coefficients(
+    p: usize,
+    s: usize,
+    n: usize,
+    m: usize,
+    t: usize,
+    weights: &[u8],
+    tables: &[u8],
+    d: &[u8],
+    store: &[u8],
+    beta: &mut [u8],
+) -> u8
+    ensures { λ r. ⌜ r ≡ first (specs.coefficientsCauses p s n m t (now (weights .entry)) (now (tables .entry)) (now (d .entry)) (now (store .entry)) (now (beta .entry))) ⌝ }
+    ensures { λ r. ⌜ now (beta .exit) ≡ result r (specs.coefficients (columns (plan p s n m t)) (now (store .entry))) (now (beta .entry)) ⌝ }
+{
+    match Plan::new(p, s, n, m, t) {
+        Checked::Refused(k) => k,
+        Checked::Accepted(plan) => {
+            let c = plan.columns();
+            let k = part_refusal(
+                plan,
+                weights,
+                tables,
+                d,
+                both_fit(store.len(), beta.len(), c),
+            );
+            if k != 0 {
+                return k;
+            }
+            if !is_reduced(store, c, plan.p) {
+                return 6;
+            }
+            read_off(store, c, beta);
+            0
+        }
+    }
+}
