@@ -1,0 +1,173 @@
+-- The calls' answers from the refusals that their tests have shown (`Rattle.plan.proofs.Refusals`).
+--     writing-parts, writing-five, writing-ten, writing-none       a checked plan's writing: its refusal by the tests
+--     writing-accepted                                     what is known where there is none
+--     write-numbers, write-checked, write-within           a writing of any numbers
+--     run-numbers, run-parts, run-eleven, run-twelve, run-done       the run's answer by the tests
+--     written-refused, written-done, handed-refused, handed-done       what the writer leaves and hands back
+-- Assumes nothing.
+use mathlib.Core.Path.{_≡_, refl, sym, ap, subst, _∙_}
+use mathlib.Core.Bool.{Bool, true, false, cond, not}
+use mathlib.Core.List.{List, [], _∷_, _++_}
+use Prim.Native.Nat.{ℕ, zero, suc, _+_, _*_, _≤_, _<_}
+use native.Mathlib.Omega.{arith}
+use lib.Dec.{eqb, ltb}
+use lib.ListN.{length, take, drop}
+use lib.Seq.{take-at}
+use borrow.Author.Tests.{eqb-true, ltb-false, lt-ltb, le-ltb, not-false}
+use Rattle.lists.specs.Places.{placed}
+use Rattle.field.specs.Residues.{Residues}
+use Rattle.field.specs.Rows.{allBelow}
+use Rattle.field.proofs.Ranges.{residues-of}
+use Rattle.plan.specs.Causes.{first, result}
+use Rattle.plan.specs.Numbers.{columns, plan, checked, numberCauses, Within}
+use Rattle.plan.specs.Parts.{partCauses, callCauses, Lent}
+use Rattle.plan.specs.declared.numbers.Plan.{Plan}
+use Rattle.plan.specs.declared.numbers.Checked.the-variants.{Accepted, Refused}
+use Rattle.plan.proofs.Refusals.{orElse, Numbered, first-append, first-refused, first-passed, result-refused, within-of, lent-of, call-numbers, call-parts, call-passed, call-plan}
+use Rattle.program.specs.Steps.{wellFormed}
+use Rattle.program.specs.Layout.{layout, stepCount}
+use Rattle.program.specs.Calls.{writeCauses, writingCauses, runCauses, written, handed, ran}
+use Rattle.program.specs.declared.running.Ran.{Ran}
+use Rattle.program.specs.declared.running.Ran.the-variants.{Done, Refused as RunRefused}
+use Rattle.program.proofs.Shape.{layout-length}
+
+neither : (a b : ℕ) → orElse a b ≡ 0 → (a ≡ 0) × (b ≡ 0)
+neither zero b e = (refl, e)
+neither (suc a) b e = absurd (omega arith)
+
+both-passed : (a b : List (ℕ × Bool)) → Numbered a → first (a ++ b) ≡ 0 → (first a ≡ 0) × (first b ≡ 0)
+both-passed a b h e = neither (first a) (first b) (sym (first-append a b h) ∙ e)
+
+unmet : (c : Bool) (k rest : ℕ) → 0 < k → cond c k rest ≡ 0 → (c ≡ false) × (rest ≡ 0)
+unmet true k rest l e = absurd (omega arith)
+unmet false k rest l e = (refl, e)
+
+module _ (P : Plan) (w T d β : List ℕ) (room : ℕ) where
+  parts : List (ℕ × Bool)
+  parts = partCauses P w T d (eqb (length β) (columns P))
+
+  own : List (ℕ × Bool)
+  own = (5, not (allBelow (P .p) β)) ∷ (10, ltb room (4 * stepCount P)) ∷ []
+
+  pub writing-parts : (k : ℕ) → k ≡ first (partCauses P w T d (eqb (length β) (columns P))) → 0 < k → k ≡ first (writingCauses P w T d β room)
+  unfolding writingCauses parts own
+  writing-parts k e pos = first-refused parts own k (omega arith) (sym e) pos
+
+  module _ (passed : 0 ≡ first (partCauses P w T d (eqb (length β) (columns P)))) where
+    pub writing-five : allBelow (P .p) β ≡ false → 5 ≡ first (writingCauses P w T d β room)
+    unfolding writingCauses parts own
+    writing-five e = sym (first-passed parts own (omega arith) (sym passed) ∙ rw e)
+
+    pub writing-ten : allBelow (P .p) β ≡ true → room < 4 * stepCount P → 10 ≡ first (writingCauses P w T d β room)
+    unfolding writingCauses parts own
+    writing-ten e l = sym (first-passed parts own (omega arith) (sym passed) ∙ rw (e, lt-ltb room (4 * stepCount P) l))
+
+    pub writing-none : allBelow (P .p) β ≡ true → 4 * stepCount P ≤ room → 0 ≡ first (writingCauses P w T d β room)
+    unfolding writingCauses parts own
+    writing-none e l = sym (first-passed parts own (omega arith) (sym passed) ∙ rw (e, le-ltb room (4 * stepCount P) l))
+
+  pub writing-accepted : Within P → first (writingCauses P w T d β room) ≡ 0 → Lent P w T d × (length β ≡ columns P) × (allBelow (P .p) β ≡ true) × (4 * stepCount P ≤ room)
+  unfolding writingCauses parts own
+  writing-accepted within e =
+      let h = both-passed parts own (omega arith) e in
+      let lent = lent-of P w T d (eqb (length β) (columns P)) within (h .0) in
+      let c5 = unmet (not (allBelow (P .p) β)) 5 (cond (ltb room (4 * stepCount P)) 10 0) (omega arith) (h .1) in
+      let c10 = unmet (ltb room (4 * stepCount P)) 10 0 (omega arith) (c5 .1) in
+      (lent .0, eqb-true (length β) (columns P) (lent .1), not-false (allBelow (P .p) β) (c5 .0), ltb-false room (4 * stepCount P) (c10 .0))
+
+module _ (p s n m t : ℕ) (w T d β steps : List ℕ) where
+  ownLength : Plan → Bool
+  ownLength P = eqb (length β) (columns P)
+
+  ownCauses : Plan → List (ℕ × Bool)
+  ownCauses P = (5, not (allBelow (P .p) β)) ∷ (10, ltb (length steps) (4 * stepCount P)) ∷ []
+
+  pub write-numbers : (k : ℕ) → checked p s n m t ≡ Refused k → (k ≡ first (writeCauses p s n m t w T d β steps)) × (0 < k)
+  unfolding writeCauses ownLength ownCauses
+  write-numbers k e = call-numbers p s n m t w T d ownLength ownCauses k e
+
+  pub write-checked : (Q : Plan) → checked p s n m t ≡ Accepted Q → first (writeCauses p s n m t w T d β steps) ≡ first (writingCauses Q w T d β (length steps))
+  unfolding writeCauses writingCauses ownLength ownCauses
+  write-checked Q e = from (first (partCauses Q w T d (ownLength Q))) refl
+    where
+      from : (k : ℕ) → k ≡ first (partCauses Q w T d (ownLength Q)) → first (callCauses p s n m t w T d ownLength ownCauses) ≡ first (writingCauses Q w T d β (length steps))
+      from zero h =
+          call-passed p s n m t w T d ownLength ownCauses Q e h
+          ∙ sym (first-passed (partCauses Q w T d (ownLength Q)) (ownCauses Q) (omega arith) (sym h))
+      from (suc k) h =
+          sym (call-parts p s n m t w T d ownLength ownCauses Q e (suc k) h (omega arith))
+          ∙ first-refused (partCauses Q w T d (ownLength Q)) (ownCauses Q) (suc k) (omega arith) (sym h) (omega arith)
+
+  -- a writing that is not refused has a plan within its limits
+  pub write-within : first (writeCauses p s n m t w T d β steps) ≡ 0 → Within (plan p s n m t) × (first (writingCauses (plan p s n m t) w T d β (length steps)) ≡ 0)
+  unfolding writeCauses writingCauses callCauses
+  write-within e =
+      let h = both-passed (numberCauses p s n m t) (writingCauses (plan p s n m t) w T d β (length steps)) (omega arith) e in
+      (within-of p s n m t (h .0), h .1)
+
+ran-refused : (k j y count : ℕ) → k ≡ j → 0 < k → RunRefused k ≡ ran j y count
+unfolding ran
+ran-refused zero j y count e pos = absurd (omega arith)
+ran-refused (suc k) j y count e pos = ap (λ (i : ℕ). ran i y count) e
+
+ran-done : (j y count : ℕ) → j ≡ 0 → Done y count ≡ ran j y count
+unfolding ran
+ran-done j y count e = ap (λ (i : ℕ). ran i y count) (sym e)
+
+-- the run's answers
+module _ (p s n m t : ℕ) (w T d steps digits : List ℕ) (y count : ℕ) where
+  runLength : Plan → Bool
+  runLength P = eqb (length digits) (P .n)
+
+  ownRun : Plan → List (ℕ × Bool)
+  ownRun P = (11, not (wellFormed P steps)) ∷ (12, not (allBelow (P .s) digits)) ∷ []
+
+  pub run-numbers : (k : ℕ) → checked p s n m t ≡ Refused k → RunRefused k ≡ ran (first (runCauses p s n m t w T d steps digits)) y count
+  unfolding runCauses runLength ownRun
+  run-numbers k e = let r = call-numbers p s n m t w T d runLength ownRun k e in ran-refused k _ y count (r .0) (r .1)
+
+  module _ (Q : Plan) (e : checked p s n m t ≡ Accepted Q) where
+    pub run-parts : (k : ℕ) → k ≡ first (partCauses Q w T d (eqb (length digits) (Q .n))) → 0 < k → RunRefused k ≡ ran (first (runCauses p s n m t w T d steps digits)) y count
+    unfolding runCauses runLength ownRun
+    run-parts k h pos = ran-refused k _ y count (call-parts p s n m t w T d runLength ownRun Q e k h pos) pos
+
+    module _ (passed : 0 ≡ first (partCauses Q w T d (eqb (length digits) (Q .n)))) where
+      pub run-eleven : wellFormed Q steps ≡ false → RunRefused 11 ≡ ran (first (runCauses p s n m t w T d steps digits)) y count
+      unfolding runCauses runLength ownRun
+      run-eleven h = ran-refused 11 _ y count (sym (call-passed p s n m t w T d runLength ownRun Q e passed ∙ rw h)) (omega arith)
+
+      pub run-twelve : wellFormed Q steps ≡ true → allBelow (Q .s) digits ≡ false → RunRefused 12 ≡ ran (first (runCauses p s n m t w T d steps digits)) y count
+      unfolding runCauses runLength ownRun
+      run-twelve h k = ran-refused 12 _ y count (sym (call-passed p s n m t w T d runLength ownRun Q e passed ∙ rw (h, k))) (omega arith)
+
+      pub run-done : wellFormed Q steps ≡ true → allBelow (Q .s) digits ≡ true → Done y count ≡ ran (first (runCauses p s n m t w T d steps digits)) y count
+      unfolding runCauses runLength ownRun
+      run-done h k = ran-done _ y count (call-passed p s n m t w T d runLength ownRun Q e passed ∙ rw (h, k))
+
+-- digits below s are residues
+pub digit-residues : (P : Plan) (digits : List ℕ) → Within P → allBelow (P .s) digits ≡ true → Residues (P .p) digits
+digit-residues P digits within h i =
+    let pos : 0 < P .s = omega (arith, within .radix-low) in
+    omega (arith, residues-of (P .s) digits pos h i, within .radix-high)
+
+module _ (P : Plan) (w d β : List ℕ) where
+  pub written-refused : (k : ℕ) (steps : List ℕ) → 0 < k → steps ≡ written k P w d β steps
+  unfolding written
+  written-refused k steps pos = sym (result-refused k _ steps pos)
+
+  pub written-done : (steps out : List ℕ) → out ≡ placed steps 0 (layout P w d β) → out ≡ written 0 P w d β steps
+  unfolding written
+  written-done steps out e = e
+
+  pub handed-refused : (j : ℕ) → (j ≡ 0 → ⊥) → [] ≡ handed j P w d β
+  unfolding handed
+  handed-refused zero h = absurd (h refl)
+  handed-refused (suc j) h = refl
+
+  -- the first part of what was written
+  pub handed-done : (r j k : ℕ) (steps out : List ℕ) → r ≡ 0 → r ≡ j → out ≡ written r P w d β steps → k ≡ 4 * stepCount P → take k out ≡ handed j P w d β
+  unfolding handed written
+  handed-done r j k steps out zero-r same e size =
+      ap (take k) (e ∙ ap (λ (i : ℕ). written i P w d β steps) zero-r)
+      ∙ take-at (layout P w d β) (drop (0 + length (layout P w d β)) steps) k (layout-length P w d β ∙ sym size)
+      ∙ ap (λ (i : ℕ). handed i P w d β) (sym zero-r ∙ same)

@@ -1,0 +1,8 @@
+-- The theory of `program`: it knows the definitions of specs/ and no code.
+pub mod Pieces
+pub mod Effects
+pub mod Demand2
+pub mod Shape
+pub mod Placement
+pub mod Interpreting
+pub mod Answers

@@ -1,0 +1,68 @@
+-- `program::entry::writing_refusal` meets its contract: the parts' refusal, then 5 for β, then 10. Assumes nothing.
+use mathlib.Core.Path.{_≡_, sym, _∙_}
+use native.Mathlib.Nat.{pos-of-ne-zero}
+use native.Mathlib.Omega.{arith}
+use lib.Dec.{eqb}
+use lib.ListN.{length}
+use borrow.Author.Tests.{not-true, not-false}
+use Rattle.plan.specs.Causes.{first}
+use Rattle.plan.specs.Numbers.{columns}
+use Rattle.plan.specs.Parts.{partCauses}
+use Rattle.program.specs.Layout.{stepCount}
+use Rattle.program.proofs.Shape.{step-limit}
+use Rattle.program.proofs.Answers.{writing-parts, writing-five, writing-ten, writing-none}
+use borrow.Author.Needs.{needs}
+use Rattle.program.proofs.entry.writing_refusal.Statement.{statement}
+use Rattle.program.proofs.entry.writing_refusal.Tie as tie
+
+columns-requires : tie.Need-columns-requires
+columns-requires c κs = search needs
+
+part-refusal-requires : tie.Need-part-refusal-requires
+part-refusal-requires c κs = search needs
+
+abbrev start : tie.After-part-refusal → tie.Start
+start c = c .before .before .before .before .before .before
+
+-- the parts' refusal, with β's length against the plan's columns
+parts : (c : tie.After-part-refusal) → c .part-refusal .result ≡ first (partCauses (start c .args .plan) (start c .args .weights .now) (start c .args .tables .now) (start c .args .d .now) (eqb (length (start c .args .beta .now)) (columns (start c .args .plan))))
+parts c = rw (c .before .columns .ensures) at (c .part-refusal .ensures)
+
+counted : (c : tie.After-step-count) → c .step-count .result ≡ stepCount (c .before .before .before .before .before .before .before .before .before .before .args .plan)
+unfolding stepCount
+counted c = c .step-count .ensures
+
+returns : tie.Need-returns
+returns c = writing-parts _ _ _ _ _ _ _ (parts (c .before)) (pos-of-ne-zero (c .if1 .taken))
+
+all-below-requires : tie.Need-all-below-requires
+all-below-requires c κs = search needs
+
+returns-2 : tie.Need-returns-2
+returns-2 c = writing-five _ _ _ _ _ _ (sym (c .before .before .if1 .left) ∙ parts (c .before .before .before)) (sym (c .before .all-below .ensures) ∙ not-true _ (c .if2 .taken))
+
+step-count-requires : tie.Need-step-count-requires
+step-count-requires c κs = search needs
+
+mul-if3 : tie.Need-mul-if3
+mul-if3 c = omega (arith, counted (c), step-limit (c .before .before .before .before .before .before .before .before .before .before .args .plan) (c .before .before .before .before .before .before .before .before .before .before .pre))
+
+returns-3 : tie.Need-returns-3
+returns-3 c = writing-ten _ _ _ _ _ _ (sym (c .before .before .before .before .if1 .left) ∙ parts (c .before .before .before .before .before)) (sym (c .before .before .before .all-below .ensures) ∙ not-false _ (c .before .before .if2 .left)) (rw (counted (c .before)) at (c .if3 .taken))
+
+returns-4 : tie.Need-returns-4
+returns-4 c = writing-none _ _ _ _ _ _ (sym (c .before .before .before .before .if1 .left) ∙ parts (c .before .before .before .before .before)) (sym (c .before .before .before .all-below .ensures) ∙ not-false _ (c .before .before .if2 .left)) (rw (counted (c .before)) at (c .if3 .left))
+
+pub writing-refusal-spec : {M : Type 1} → statement M
+writing-refusal-spec =
+    tie.close
+    (tie.spec
+    columns-requires
+    part-refusal-requires
+    returns
+    all-below-requires
+    returns-2
+    step-count-requires
+    mul-if3
+    returns-3
+    returns-4)

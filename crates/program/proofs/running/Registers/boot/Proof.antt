@@ -1,0 +1,22 @@
+-- `program::running::Registers::boot` meets its contract: the new value is `table_at`'s. Assumes nothing.
+use mathlib.Core.Path.{_≡_, ap}
+use lib.ListN.{set}
+use borrow.Author.Needs.{needs}
+use Rattle.program.proofs.running.Registers.boot.Statement.{statement}
+use Rattle.program.proofs.running.Registers.boot.Tie as tie
+
+element-copy-out-table-at : tie.Need-element-copy-out-table-at
+element-copy-out-table-at c = search needs
+
+table-at-requires : tie.Need-table-at-requires
+table-at-requires c κs = (c .before .before .pre .1 .0, (c .before .before .pre .1 .1 .0, (c .before .before .pre .1 .1 .1 .1 _, c .before .before .pre .1 .1 .1 .0)))
+
+element-write-self : tie.Need-element-write-self
+element-write-self c = search needs
+
+returns : tie.Need-returns
+returns c = ap (set (c .before .before .before .args .t1 .at) (c .before .before .before .args .to)) (c .table-at .ensures)
+
+pub boot-spec : {M : Type 1} → statement M
+boot-spec =
+    tie.close (tie.spec element-copy-out-table-at table-at-requires element-write-self returns)

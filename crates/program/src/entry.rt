@@ -1,0 +1,146 @@
+// The entry points: any numbers and lists are taken.
+ghost use mathlib.Core.Path.{_≡_};
+ghost use mathlib.Core.List.{_++_};
+ghost use Rattle.plan.specs.Causes.{first};
+ghost use Rattle.plan.specs.Numbers.{Within, plan};
+ghost use Rattle.program.specs.Steps.{output, bootstraps};
+ghost use Rattle.program.specs.Calls as specs;
+use crate::running::Ran;
+use crate::running::run_steps;
+use crate::running::well_formed;
+use crate::writing::put_program;
+use crate::writing::step_count;
+use plan::Checked;
+use plan::Plan;
+use plan::part_refusal;
+
+// A writing's refusal for a checked plan: 4, 5 or 10, else 0. `room` is the step slice's length.
+fn writing_refusal(
+    plan: Plan,
+    weights: &[u8],
+    tables: &[u8],
+    d: &[u8],
+    beta: &[u8],
+    room: usize,
+) -> u8
+    requires { ⌜ Within plan ⌝ }
+    ensures { λ r. ⌜ r ≡ first (specs.writingCauses plan (now (weights .entry)) (now (tables .entry)) (now (d .entry)) (now (beta .entry)) room) ⌝ }
+{
+    let k = part_refusal(plan, weights, tables, d, beta.len() == plan.columns());
+    if k != 0 {
+        return k;
+    }
+    if !field::all_below(beta, plan.p) {
+        return 5;
+    }
+    if room < 4 * step_count(plan.n, plan.m, plan.t) {
+        return 10;
+    }
+    0
+}
+
+// Whether `write` would accept: its refusal, 0 where it would, and nothing is written.
+pub fn check_writing(
+    p: usize,
+    s: usize,
+    n: usize,
+    m: usize,
+    t: usize,
+    weights: &[u8],
+    tables: &[u8],
+    d: &[u8],
+    beta: &[u8],
+    steps: &[u16],
+) -> u8
+    ensures { λ r. ⌜ r ≡ first (specs.writeCauses p s n m t (now (weights .entry)) (now (tables .entry)) (now (d .entry)) (now (beta .entry)) (now (steps .entry))) ⌝ }
+{
+    match Plan::new(p, s, n, m, t) {
+        Checked::Refused(k) => k,
+        Checked::Accepted(plan) => writing_refusal(plan, weights, tables, d, beta, steps.len()),
+    }
+}
+
+// Writes the program at the front of `steps`: causes 1 2 3 4 5 10. The rest of the slice, and all of it under a refusal, keeps its bytes.
+pub fn write_into(
+    p: usize,
+    s: usize,
+    n: usize,
+    m: usize,
+    t: usize,
+    weights: &[u8],
+    tables: &[u8],
+    d: &[u8],
+    beta: &[u8],
+    steps: &mut [u16],
+) -> u8
+    ensures { λ r. ⌜ r ≡ first (specs.writeCauses p s n m t (now (weights .entry)) (now (tables .entry)) (now (d .entry)) (now (beta .entry)) (now (steps .entry))) ⌝ }
+    ensures { λ r. ⌜ now (steps .exit) ≡ specs.written r (plan p s n m t) (now (weights .entry)) (now (d .entry)) (now (beta .entry)) (now (steps .entry)) ⌝ }
+{
+    match Plan::new(p, s, n, m, t) {
+        Checked::Refused(k) => k,
+        Checked::Accepted(plan) => {
+            let k = writing_refusal(plan, weights, tables, d, beta, steps.len());
+            if k != 0 {
+                return k;
+            }
+            put_program(plan, weights, d, beta, steps);
+            0
+        }
+    }
+}
+
+// Writes the program and hands back the filled part, of exactly 4 times the step count; the empty part where `check_writing` gives a number.
+pub fn write<'a>(
+    p: usize,
+    s: usize,
+    n: usize,
+    m: usize,
+    t: usize,
+    weights: &[u8],
+    tables: &[u8],
+    d: &[u8],
+    beta: &[u8],
+    steps: &'a mut [u16],
+) -> &'a mut [u16]
+    ensures { λ r. ⌜ now r ≡ specs.handed (first (specs.writeCauses p s n m t (now (weights .entry)) (now (tables .entry)) (now (d .entry)) (now (beta .entry)) (now (steps .entry)))) (plan p s n m t) (now (weights .entry)) (now (d .entry)) (now (beta .entry)) ⌝ }
+    ensures { λ r. ⌜ r .ptr ≡ steps .entry .ptr ⌝ }
+{
+    if write_into(p, s, n, m, t, weights, tables, d, beta, steps) != 0 {
+        return &mut steps[..0];
+    }
+    let end = 4 * step_count(n, m, t);
+    &mut steps[..end]
+}
+
+// Runs a list of steps on n digits: causes 1 2 3 4 5 11 12. The whole list is tested before the first step.
+pub fn run(
+    p: usize,
+    s: usize,
+    n: usize,
+    m: usize,
+    t: usize,
+    weights: &[u8],
+    tables: &[u8],
+    d: &[u8],
+    steps: &[u16],
+    digits: &[u8],
+) -> Ran
+    ensures { λ r. ⌜ r ≡ specs.ran (first (specs.runCauses p s n m t (now (weights .entry)) (now (tables .entry)) (now (d .entry)) (now (steps .entry)) (now (digits .entry)))) (output (plan p s n m t) (now (tables .entry)) (now (steps .entry)) (now (digits .entry))) (bootstraps (now (steps .entry))) ⌝ }
+{
+    match Plan::new(p, s, n, m, t) {
+        Checked::Refused(k) => Ran::Refused(k),
+        Checked::Accepted(plan) => {
+            let k = part_refusal(plan, weights, tables, d, digits.len() == plan.n);
+            if k != 0 {
+                return Ran::Refused(k);
+            }
+            if !well_formed(plan, steps) {
+                return Ran::Refused(11);
+            }
+            if !field::all_below(digits, plan.s) {
+                return Ran::Refused(12);
+            }
+            run_steps(plan, tables, steps, digits)
+        }
+    }
+}
