@@ -1,0 +1,2 @@
+-- Demand 3 of the brief, as a statement.
+pub mod Demand3

@@ -1,0 +1,1 @@
+// Demand 3 and the starred cases: theorems only.
