@@ -1,0 +1,40 @@
+-- A call that was not refused had a plan within its limits. Assumes nothing.
+use mathlib.Core.Path.{_≡_, refl, sym, _∙_}
+use mathlib.Core.List.{List, [], _∷_}
+use Prim.Native.Nat.{ℕ, zero, suc, _+_, _-_, _*_, _/_, _≤_}
+use native.Mathlib.Nat.{mul-le-mul}
+use native.Mathlib.Omega.{arith}
+use Rattle.plan.specs.Causes.{first}
+use Rattle.plan.specs.Numbers.{plan, Within}
+use Rattle.plan.specs.Rows.{entryCause}
+use Rattle.plan.proofs.Refusals.{within-of, none-met}
+use Rattle.store.specs.declared.elimination.Filed.the-variants.{New, Implied, Refused}
+use Rattle.store.specs.Elimination.{Outcome, new, implied, contradiction}
+use Rattle.store.specs.Calls.{storeFits, storeCause, valueCause, conflictCause, fileCauses, answered}
+use Rattle.program.specs.Calls.{writeCauses}
+use Rattle.celerycrag.specs.Numbers.{lengthOf}
+
+passed : (k : ℕ) (o : Outcome) → answered k o ≡ Implied → k ≡ 0
+unfolding answered
+passed zero o e = refl
+passed (suc k) o e = let z : _≡_ {A = ℕ} 0 1 = cc in absurd (omega arith)
+
+pub implied-within : (p s n m t : ℕ) (w T d store : List ℕ) (i v : ℕ) (o : Outcome) → answered (first (fileCauses p s n m t w T d store i v)) o ≡ Implied → Within (plan p s n m t)
+unfolding fileCauses
+implied-within p s n m t w T d store i v o e = within-of p s n m t (none-met p s n m t w T d _ _ (passed _ o e) .0)
+
+pub writes-within : (p s n m t : ℕ) (w T d β steps : List ℕ) → first (writeCauses p s n m t w T d β steps) ≡ 0 → Within (plan p s n m t)
+unfolding writeCauses
+writes-within p s n m t w T d β steps e = within-of p s n m t (none-met p s n m t w T d _ _ e .0)
+
+pub step-count-small : {p s n m t : ℕ} → Within (plan p s n m t) → (k : ℕ) → k ≡ m * (n + 2) + m * (m - 1) / 2 + 1 + t * (2 * (n + m) + 12) + (n + m) → k ≤ 20000
+step-count-small {p} {s} {n} {m} {t} w k e =
+    let hm : m ≤ 64 = omega (arith, w .variable-limit) in
+    let hn : n + 2 ≤ 66 = omega (arith, w .variable-limit) in
+    let hm1 : m - 1 ≤ 64 = omega arith in
+    let hl : 2 * (n + m) + 12 ≤ 140 = omega (arith, w .variable-limit) in
+    omega (arith, mul-le-mul hm hn, mul-le-mul hm hm1, mul-le-mul (w .product-limit) hl, w .variable-limit)
+
+pub lengthOf-refused : (k n old : ℕ) → (k ≡ 0 → ⊥) → lengthOf k n old ≡ old
+lengthOf-refused zero n old h = absurd (h refl)
+lengthOf-refused (suc k) n old h = refl

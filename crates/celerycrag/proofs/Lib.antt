@@ -1,0 +1,2 @@
+-- What an accepted call says of its plan.
+pub mod Accepted

@@ -1,0 +1,76 @@
+-- `celerycrag::celery_file` meets its contract: each arm of the match is one case of the answer, and an implied entry's plan is accepted, so
+-- that its number of columns fits. Assumes nothing.
+use mathlib.Core.Path.{_≡_, refl, sym, ap, _∙_}
+use Prim.Native.Nat.{ℕ, _+_, _*_, _≤_}
+use native.Mathlib.Nat.{mul-le-mul}
+use native.Mathlib.Omega.{arith}
+use borrow.Author.Needs.{needs}
+use Rattle.plan.specs.Numbers.{plan, Within}
+use Rattle.store.specs.declared.elimination.Filed.the-variants.{New, Implied, Refused}
+use Rattle.celerycrag.proofs.Accepted.{implied-within}
+use borrow.Author.Needs.{needs}
+use Rattle.celerycrag.proofs.celery_file.Statement.{statement}
+use Rattle.celerycrag.proofs.celery_file.Tie as tie
+
+file-requires : tie.Need-file-requires
+file-requires c κs = search needs
+
+enum-known-a : tie.Need-enum-known-a
+enum-known-a c = search needs
+
+enum-told : tie.Need-enum-told
+enum-told c = search needs
+
+add-column : tie.Need-add-column
+add-column c = omega (arith, implied-within _ _ _ _ _ _ _ _ _ _ _ _ (sym (c .before .before .before .before .file .ensures .0) ∙ c .enum-told .given .1))
+
+add-column-2 : tie.Need-add-column-2
+add-column-2 c = omega (arith, implied-within _ _ _ _ _ _ _ _ _ _ _ _ (sym (c .before .before .before .before .file .ensures .0) ∙ c .enum-told .given .1))
+
+mul-column : tie.Need-mul-column
+mul-column c = omega (arith, implied-within _ _ _ _ _ _ _ _ _ _ _ _ (sym (c .before .before .before .before .file .ensures .0) ∙ c .enum-told .given .1))
+
+enum-known-a-2 : tie.Need-enum-known-a-2
+enum-known-a-2 c = search needs
+
+same-length : tie.Need-same-length
+same-length c = search needs
+
+returns : tie.Need-returns
+returns c =
+    let e = sym (c .before .before .before .before .before .file .ensures .0) ∙ c .before .a .given .1 in
+    (rw e, (c .before .before .before .before .before .file .ensures .1, rw e))
+
+same-length-2 : tie.Need-same-length-2
+same-length-2 c = search needs
+
+returns-2 : tie.Need-returns-2
+returns-2 c =
+    let e = sym (c .before .before .before .before .file .ensures .0) ∙ c .enum-told .given .1 in
+    (rw e, (c .before .before .before .before .file .ensures .1, rw e))
+
+same-length-3 : tie.Need-same-length-3
+same-length-3 c = search needs
+
+returns-3 : tie.Need-returns-3
+returns-3 c =
+    let e = sym (c .before .before .before .before .before .file .ensures .0) ∙ c .before .a2 .given .1 in
+    (rw e, (c .before .before .before .before .before .file .ensures .1, rw e))
+
+pub celery-file-spec : {M : Type 1} → statement M
+celery-file-spec =
+    tie.close
+    (tie.spec
+    file-requires
+    enum-known-a
+    enum-told
+    add-column
+    add-column-2
+    mul-column
+    enum-known-a-2
+    same-length
+    returns
+    same-length-2
+    returns-2
+    same-length-3
+    returns-3)

@@ -1,0 +1,232 @@
+// The library for hosts: every call as a C function over the entry points below, with the prefix `celery_`.
+//
+// An answer is 01's number, 0 where the call is accepted; what else an answer carries goes through a lent number, which a refusal leaves
+// alone. include/celerycrag.h documents each call. Stands on `plan`, `store`, `program` and `listing`.
+ghost use mathlib.Core.Path.{_≡_};
+ghost use mathlib.Core.Bool.{true};
+ghost use mathlib.Core.List.{[]};
+ghost use Prim.Native.Nat.{_*_};
+ghost use Rattle.plan.specs.Causes.{first, result};
+ghost use Rattle.plan.specs.Numbers.{plan, columns};
+ghost use Rattle.plan.specs.Parts.{callCauses};
+ghost use Rattle.plan.specs.Rows as rows;
+ghost use Rattle.store.specs.Elimination.{outcome, cells};
+ghost use Rattle.store.specs.Calls as stores;
+ghost use Rattle.program.specs.Steps.{output, bootstraps};
+ghost use Rattle.program.specs.Layout.{stepCount};
+ghost use Rattle.program.specs.Calls as programs;
+ghost use Rattle.listing.specs.Norm as norms;
+ghost use Rattle.celerycrag.specs.Numbers as specs;
+
+// Checks a plan: causes 1 2 3 4 5.
+#[no_mangle]
+pub extern "C" fn celery_check(
+    p: usize,
+    s: usize,
+    n: usize,
+    m: usize,
+    t: usize,
+    weights: &[u8],
+    tables: &[u8],
+    d: &[u8],
+) -> u8
+    ensures { λ r. ⌜ r ≡ first (callCauses p s n m t (now (weights .entry)) (now (tables .entry)) (now (d .entry)) (λ _. true) (λ _. [])) ⌝ }
+{
+    plan::check(p, s, n, m, t, weights, tables, d)
+}
+
+// Fills `row`, of exactly C bytes, with row `entry`: causes 1 2 3 4 5 7.
+#[no_mangle]
+pub extern "C" fn celery_row(
+    p: usize,
+    s: usize,
+    n: usize,
+    m: usize,
+    t: usize,
+    weights: &[u8],
+    tables: &[u8],
+    d: &[u8],
+    entry: usize,
+    row: &mut [u8],
+) -> u8
+    ensures { λ r. ⌜ r ≡ first (rows.rowCauses p s n m t (now (weights .entry)) (now (tables .entry)) (now (d .entry)) entry (now (row .entry))) ⌝ }
+    ensures { λ r. ⌜ now (row .exit) ≡ result r (rows.row (plan p s n m t) (now (weights .entry)) (now (tables .entry)) (now (d .entry)) entry) (now (row .entry)) ⌝ }
+{
+    plan::row(p, s, n, m, t, weights, tables, d, entry, row)
+}
+
+// Tests a store: causes 1 2 3 4 5 6.
+#[no_mangle]
+pub extern "C" fn celery_test(
+    p: usize,
+    s: usize,
+    n: usize,
+    m: usize,
+    t: usize,
+    weights: &[u8],
+    tables: &[u8],
+    d: &[u8],
+    store: &[u8],
+) -> u8
+    ensures { λ r. ⌜ r ≡ first (stores.testCauses p s n m t (now (weights .entry)) (now (tables .entry)) (now (d .entry)) (now (store .entry))) ⌝ }
+{
+    store::test(p, s, n, m, t, weights, tables, d, store)
+}
+
+// Files an entry with its value: causes 1 to 9. `column` becomes the pivot column where the entry is new, and C, which is no
+// column, where the store implied it.
+#[no_mangle]
+pub extern "C" fn celery_file(
+    p: usize,
+    s: usize,
+    n: usize,
+    m: usize,
+    t: usize,
+    weights: &[u8],
+    tables: &[u8],
+    d: &[u8],
+    store: &mut [u8],
+    entry: usize,
+    value: usize,
+    column: &mut usize,
+) -> u8
+    ensures { λ r. ⌜ r ≡ stores.numberOf (stores.answered (first (stores.fileCauses p s n m t (now (weights .entry)) (now (tables .entry)) (now (d .entry)) (now (store .entry)) entry value)) (outcome p (columns (plan p s n m t)) (cells (columns (plan p s n m t)) (now (store .entry))) (stores.equation (plan p s n m t) (now (weights .entry)) (now (tables .entry)) (now (d .entry)) entry value))) ⌝ }
+    ensures { λ r. ⌜ now (store .exit) ≡ result (first (stores.fileCauses p s n m t (now (weights .entry)) (now (tables .entry)) (now (d .entry)) (now (store .entry)) entry value)) (stores.filed (plan p s n m t) (now (weights .entry)) (now (tables .entry)) (now (d .entry)) (now (store .entry)) entry value) (now (store .entry)) ⌝ }
+    ensures { λ r. ⌜ now (column .exit) ≡ specs.columnOf (stores.answered (first (stores.fileCauses p s n m t (now (weights .entry)) (now (tables .entry)) (now (d .entry)) (now (store .entry)) entry value)) (outcome p (columns (plan p s n m t)) (cells (columns (plan p s n m t)) (now (store .entry))) (stores.equation (plan p s n m t) (now (weights .entry)) (now (tables .entry)) (now (d .entry)) entry value))) (columns (plan p s n m t)) (now (column .entry)) ⌝ }
+{
+    let a = store::file(p, s, n, m, t, weights, tables, d, store, entry, value);
+    match a {
+        store::Filed::New(c) => {
+            *column = c;
+            0
+        }
+        store::Filed::Implied => {
+            *column = (t + 1) * (n + m);
+            0
+        }
+        store::Filed::Refused(k) => k,
+    }
+}
+
+// Reads the coefficients off a store into `beta`, of exactly C bytes: causes 1 2 3 4 5 6.
+#[no_mangle]
+pub extern "C" fn celery_coefficients(
+    p: usize,
+    s: usize,
+    n: usize,
+    m: usize,
+    t: usize,
+    weights: &[u8],
+    tables: &[u8],
+    d: &[u8],
+    store: &[u8],
+    beta: &mut [u8],
+) -> u8
+    ensures { λ r. ⌜ r ≡ first (stores.coefficientsCauses p s n m t (now (weights .entry)) (now (tables .entry)) (now (d .entry)) (now (store .entry)) (now (beta .entry))) ⌝ }
+    ensures { λ r. ⌜ now (beta .exit) ≡ result r (stores.coefficients (columns (plan p s n m t)) (now (store .entry))) (now (beta .entry)) ⌝ }
+{
+    store::coefficients(p, s, n, m, t, weights, tables, d, store, beta)
+}
+
+// The number that `celery_write` would answer; nothing is written.
+#[no_mangle]
+pub extern "C" fn celery_check_writing(
+    p: usize,
+    s: usize,
+    n: usize,
+    m: usize,
+    t: usize,
+    weights: &[u8],
+    tables: &[u8],
+    d: &[u8],
+    beta: &[u8],
+    steps: &[u16],
+) -> u8
+    ensures { λ r. ⌜ r ≡ first (programs.writeCauses p s n m t (now (weights .entry)) (now (tables .entry)) (now (d .entry)) (now (beta .entry)) (now (steps .entry))) ⌝ }
+{
+    program::check_writing(p, s, n, m, t, weights, tables, d, beta, steps)
+}
+
+// Writes the program at the front of `steps`: causes 1 2 3 4 5 10. `written` becomes 4 times the step count.
+#[no_mangle]
+pub extern "C" fn celery_write(
+    p: usize,
+    s: usize,
+    n: usize,
+    m: usize,
+    t: usize,
+    weights: &[u8],
+    tables: &[u8],
+    d: &[u8],
+    beta: &[u8],
+    steps: &mut [u16],
+    written: &mut usize,
+) -> u8
+    ensures { λ r. ⌜ r ≡ first (programs.writeCauses p s n m t (now (weights .entry)) (now (tables .entry)) (now (d .entry)) (now (beta .entry)) (now (steps .entry))) ⌝ }
+    ensures { λ r. ⌜ now (steps .exit) ≡ programs.written r (plan p s n m t) (now (weights .entry)) (now (d .entry)) (now (beta .entry)) (now (steps .entry)) ⌝ }
+    ensures { λ r. ⌜ now (written .exit) ≡ specs.lengthOf r (4 * stepCount (plan p s n m t)) (now (written .entry)) ⌝ }
+{
+    let k = program::write_into(p, s, n, m, t, weights, tables, d, beta, steps);
+    if k == 0 {
+        *written = 4 * program::step_count(n, m, t);
+    }
+    k
+}
+
+// Runs a list of steps on n digits: causes 1 2 3 4 5 11 12. `y` and `count` become the output and the number of bootstraps.
+#[no_mangle]
+pub extern "C" fn celery_run(
+    p: usize,
+    s: usize,
+    n: usize,
+    m: usize,
+    t: usize,
+    weights: &[u8],
+    tables: &[u8],
+    d: &[u8],
+    steps: &[u16],
+    digits: &[u8],
+    y: &mut u8,
+    count: &mut usize,
+) -> u8
+    ensures { λ r. ⌜ r ≡ programs.numberOf (programs.ran (first (programs.runCauses p s n m t (now (weights .entry)) (now (tables .entry)) (now (d .entry)) (now (steps .entry)) (now (digits .entry)))) (output (plan p s n m t) (now (tables .entry)) (now (steps .entry)) (now (digits .entry))) (bootstraps (now (steps .entry)))) ⌝ }
+    ensures { λ r. ⌜ now (y .exit) ≡ specs.outputOf (programs.ran (first (programs.runCauses p s n m t (now (weights .entry)) (now (tables .entry)) (now (d .entry)) (now (steps .entry)) (now (digits .entry)))) (output (plan p s n m t) (now (tables .entry)) (now (steps .entry)) (now (digits .entry))) (bootstraps (now (steps .entry)))) (now (y .entry)) ⌝ }
+    ensures { λ r. ⌜ now (count .exit) ≡ specs.countOf (programs.ran (first (programs.runCauses p s n m t (now (weights .entry)) (now (tables .entry)) (now (d .entry)) (now (steps .entry)) (now (digits .entry)))) (output (plan p s n m t) (now (tables .entry)) (now (steps .entry)) (now (digits .entry))) (bootstraps (now (steps .entry)))) (now (count .entry)) ⌝ }
+{
+    let a = program::run(p, s, n, m, t, weights, tables, d, steps, digits);
+    match a {
+        program::Ran::Done(v, b) => {
+            *y = v;
+            *count = b;
+            0
+        }
+        program::Ran::Refused(k) => k,
+    }
+}
+
+// The worst norm of a plan's weights and coefficients: causes 1 2 3 4 5.
+#[no_mangle]
+pub extern "C" fn celery_worst_norm(
+    p: usize,
+    s: usize,
+    n: usize,
+    m: usize,
+    t: usize,
+    weights: &[u8],
+    tables: &[u8],
+    d: &[u8],
+    beta: &[u8],
+    norm: &mut usize,
+) -> u8
+    ensures { λ r. ⌜ r ≡ specs.normNumber (norms.normed (first (norms.normCauses p s n m t (now (weights .entry)) (now (tables .entry)) (now (d .entry)) (now (beta .entry)))) (norms.worst (plan p s n m t) (now (weights .entry)) (now (d .entry)) (now (beta .entry)))) ⌝ }
+    ensures { λ r. ⌜ now (norm .exit) ≡ specs.normOf (norms.normed (first (norms.normCauses p s n m t (now (weights .entry)) (now (tables .entry)) (now (d .entry)) (now (beta .entry)))) (norms.worst (plan p s n m t) (now (weights .entry)) (now (d .entry)) (now (beta .entry)))) (now (norm .entry)) ⌝ }
+{
+    let a = listing::worst_norm(p, s, n, m, t, weights, tables, d, beta);
+    match a {
+        listing::Normed::Norm(x) => {
+            *norm = x;
+            0
+        }
+        listing::Normed::Refused(k) => k,
+    }
+}

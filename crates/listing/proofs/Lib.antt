@@ -1,0 +1,7 @@
+-- The theory of `listing`: it knows the definitions of specs/ and no code.
+pub mod Norms
+pub mod Answers
+pub mod Digits
+pub mod Puts
+pub mod Lines
+pub mod Rooms

@@ -1,0 +1,130 @@
+-- The size of a listing: how many steps a plan within its limits has, and how small the numbers of a written step are.
+--     few-steps        at most 5,000 steps
+--     small-steps      each number of the written program is below 1,000
+--     step-count       the number of its steps
+--     listing-as       the listing from what is written one after the other
+-- Assumes nothing.
+use mathlib.Core.Path.{_≡_, refl, sym, ap, ap₂, subst, _∙_}
+use mathlib.Core.Bool.{Bool, true, false, cond, _&&_}
+use mathlib.Core.List.{List, [], _∷_, _++_, append-assoc}
+use Prim.Native.Nat.{ℕ, zero, suc, _+_, _-_, _*_, _/_, _%_, _≤_, _<_}
+use native.Mathlib.Decide.{decLt}
+use native.Mathlib.Nat.{mul-le-mul}
+use native.Mathlib.Omega.{arith}
+use lib.Dec.{eqb, ltb, leb}
+use lib.ListN.{length}
+use borrow.Author.Tests.{leb-true, ltb-true, eqb-true}
+use Rattle.lists.specs.Places.{tab, every, joined, at}
+use Rattle.lists.proofs.Tests.{both-true, every-at}
+use Rattle.lists.proofs.Tabs.{tab-length}
+use Rattle.lists.proofs.Parts.{at-past}
+use Rattle.field.specs.Residues.{Residues}
+use Rattle.field.proofs.Ranges.{residues-tab}
+use Rattle.plan.specs.declared.numbers.Plan.{Plan}
+use Rattle.plan.specs.Numbers.{variables, Within}
+use Rattle.plan.specs.Parts.{linkStart, Lent}
+use Rattle.plan.proofs.Bounds.{prime-low, prime-high}
+use Rattle.program.specs.Steps.{kindOf, toOf, fromOf, byOf, lastRegister, goodStep, wellFormed}
+use Rattle.program.specs.Layout.{layout, stepCount}
+use Rattle.program.proofs.Shape.{one-less, layout-length, layout-wellFormed}
+use Rattle.listing.specs.Norm.{worst}
+use Rattle.listing.specs.Decimal.{line}
+use Rattle.listing.specs.Printed.{figureNames, stepNames, stepLine, listing}
+
+-- 2mn + m² is below L², and t(2L + 12) is below 2C + 12t
+pub few-steps : (P : Plan) → Within P → stepCount P ≤ 5000
+unfolding stepCount
+few-steps P within =
+    let whole : (P .n + P .m) * (P .n + P .m) ≤ 64 * 64 = mul-le-mul (within .variable-limit) (within .variable-limit) in
+    omega (arith, whole, one-less (P .m), within .column-limit, within .product-limit, within .variable-limit)
+
+-- one step's numbers
+record Small (kind to from by : ℕ) : Type 0 where
+  kind-small : kind < 1000
+  to-small : to < 1000
+  from-small : from < 1000
+  by-small : by < 1000
+
+module _ (P : Plan) (within : Within P) where
+  small-by : (kind from by : ℕ) → cond (eqb kind 0) (eqb from 0 && eqb by 0) (cond (eqb kind 1) (ltb by (P .p)) (leb by (P .m + 1))) ≡ true → by < 1000
+  small-by kind from by h = cases (eqb kind 0) (eqb kind 1) h
+    where
+      cases : (zero? one? : Bool) → cond zero? (eqb from 0 && eqb by 0) (cond one? (ltb by (P .p)) (leb by (P .m + 1))) ≡ true → by < 1000
+      cases true one? h = omega (arith, eqb-true by 0 (both-true (eqb from 0) (eqb by 0) h .1))
+      cases false true h = omega (arith, ltb-true by (P .p) h, prime-high within)
+      cases false false h = omega (arith, leb-true by (P .m + 1) h, within .variable-limit)
+
+  small-step : (kind to from by : ℕ) → goodStep P kind to from by ≡ true → Small kind to from by
+  unfolding goodStep
+  small-step kind to from by h =
+      let a = both-true (leb kind 2 && (leb to (lastRegister P) && leb from (lastRegister P))) (cond (eqb kind 0) (eqb from 0 && eqb by 0) (cond (eqb kind 1) (ltb by (P .p)) (leb by (P .m + 1)))) h in
+      let b = both-true (leb kind 2) (leb to (lastRegister P) && leb from (lastRegister P)) (a .0) in
+      let c = both-true (leb to (lastRegister P)) (leb from (lastRegister P)) (b .1) in
+      record {
+        kind-small = omega (arith, leb-true kind 2 (b .0));
+        to-small = omega (arith, leb-true to (lastRegister P) (c .0), within .variable-limit);
+        from-small = omega (arith, leb-true from (lastRegister P) (c .1), within .variable-limit);
+        by-small = small-by kind from by (a .1);
+      }
+
+  small-all : (steps : List ℕ) → length steps % 4 ≡ 0 → wellFormed P steps ≡ true → (i : ℕ) → at steps i < 1000
+  unfolding wellFormed
+  small-all steps whole h i = elim (decLt i (length steps)) [
+    | yes l ↦ place (i % 4) refl l
+    | no l ↦ let z : at steps i ≡ 0 = at-past steps i (omega arith) in omega (arith, z)
+  ]
+    where
+      good : ℕ → Bool
+      good j = goodStep P (kindOf steps j) (toOf steps j) (fromOf steps j) (byOf steps j)
+
+      step : i < length steps → Small (kindOf steps (i / 4)) (toOf steps (i / 4)) (fromOf steps (i / 4)) (byOf steps (i / 4))
+      step l =
+          small-step (kindOf steps (i / 4)) (toOf steps (i / 4)) (fromOf steps (i / 4)) (byOf steps (i / 4))
+          (every-at good (length steps / 4) (both-true (eqb (length steps % 4) 0) (every good (length steps / 4)) h .1) (i / 4) (omega arith))
+
+      there : (j : ℕ) → at steps j < 1000 → j ≡ i → at steps i < 1000
+      there j h e = subst (λ (k : ℕ). at steps k < 1000) e h
+
+      place : (r : ℕ) → i % 4 ≡ r → i < length steps → at steps i < 1000
+      place zero e l = there (4 * (i / 4)) (step l .kind-small) (omega arith)
+      place (suc zero) e l = there (4 * (i / 4) + 1) (step l .to-small) (omega arith)
+      place (suc (suc zero)) e l = there (4 * (i / 4) + 2) (step l .from-small) (omega arith)
+      place (suc (suc (suc zero))) e l = there (4 * (i / 4) + 3) (step l .by-small) (omega arith)
+      place (suc (suc (suc (suc r)))) e l = absurd (omega arith)
+
+-- the tables do not matter to the written program: zeros serve
+pub small-steps : (P : Plan) (w d β steps : List ℕ) → Within P → length w ≡ linkStart P (P .m) → Residues (P .p) w → length d ≡ P .t * variables P → Residues (P .p) d → Residues (P .p) β
+    → steps ≡ layout P w d β → (i : ℕ) → at steps i < 1000
+small-steps P w d β steps within hw rw′ hd rd rβ e i =
+    subst (λ (xs : List ℕ). at xs i < 1000) (sym e)
+    (small-all P within (layout P w d β) (rw (layout-length P w d β) (omega arith)) (layout-wellFormed P w zeros d β within lent rβ) i)
+  where
+    zeros : List ℕ
+    zeros = tab (P .m * P .p) (λ _. 0)
+
+    positive : 0 < P .p
+    positive = omega (arith, prime-low within)
+
+    lent : Lent P w zeros d
+    lent =
+        record {
+          weights-length = hw;
+          tables-length = tab-length (P .m * P .p) (λ _. 0);
+          products-length = hd;
+          weights-residues = rw′;
+          tables-residues = residues-tab (P .p) (P .m * P .p) (λ _. 0) positive (λ j l. positive);
+          products-residues = rd;
+        }
+
+pub step-count : (P : Plan) (w d β steps : List ℕ) → steps ≡ layout P w d β → length steps / 4 ≡ stepCount P
+step-count P w d β steps e = rw (e, layout-length P w d β) (omega arith)
+
+pub listing-as : (P : Plan) (w d β steps : List ℕ) (count norm : ℕ) → steps ≡ layout P w d β → count ≡ stepCount P → norm ≡ worst P w d β
+    → ((figureNames ++ line ((P .m + 2 * P .t) ∷ count ∷ norm ∷ [])) ++ stepNames) ++ joined (stepLine steps) (length steps / 4) ≡ listing P w d β
+unfolding listing
+listing-as P w d β steps count norm e hc hn =
+    append-assoc (figureNames ++ line ((P .m + 2 * P .t) ∷ count ∷ norm ∷ [])) stepNames (joined (stepLine steps) (length steps / 4))
+    ∙ append-assoc figureNames (line ((P .m + 2 * P .t) ∷ count ∷ norm ∷ [])) (stepNames ++ joined (stepLine steps) (length steps / 4))
+    ∙ ap₂ (λ (x y : List ℕ). figureNames ++ (x ++ (stepNames ++ y)))
+    (ap₂ (λ (a b : ℕ). line ((P .m + 2 * P .t) ∷ a ∷ b ∷ [])) hc hn)
+    (ap (λ (xs : List ℕ). joined (stepLine xs) (length xs / 4)) e)

@@ -1,0 +1,45 @@
+-- `listing::norm::worst` meets its contract: the largest of the links, of the products and of β's rows (`Answers`). Assumes nothing.
+use mathlib.Core.Path.{sym}
+use native.Mathlib.Nat.{le-of-eq}
+use native.Mathlib.Omega.{arith}
+use Rattle.listing.proofs.Answers.{norm-of}
+use borrow.Author.Needs.{needs}
+use Rattle.listing.proofs.norm.worst.Statement.{statement}
+use Rattle.listing.proofs.norm.worst.Tie as tie
+
+variables-requires : tie.Need-variables-requires
+variables-requires c κs = search needs
+
+links-norm-requires : tie.Need-links-norm-requires
+links-norm-requires c κs = search needs
+
+rows-norm-requires : tie.Need-rows-norm-requires
+rows-norm-requires c κs = (omega (arith, c .before .variables .ensures, c .before .before .before .before .before .pre .0 .variable-limit), rw (c .before .variables .ensures) (le-of-eq (sym (c .before .before .before .before .before .pre .1 .1 .0))))
+
+add-rows-norm : tie.Need-add-rows-norm
+add-rows-norm c = search needs
+
+rows-norm-requires-2 : tie.Need-rows-norm-requires-2
+rows-norm-requires-2 c κs = (omega (arith, c .before .before .before .variables .ensures, c .before .before .before .before .before .before .before .pre .0 .variable-limit), rw (c .before .before .before .variables .ensures) (le-of-eq (sym (c .before .before .before .before .before .before .before .pre .1 .1 .1))))
+
+larger-requires : tie.Need-larger-requires
+larger-requires c κs = search needs
+
+larger-requires-2 : tie.Need-larger-requires-2
+larger-requires-2 c κs = search needs
+
+returns : tie.Need-returns
+returns c = norm-of (c .before .before .before .before .before .before .before .before .before .before .args .plan) (c .before .before .before .before .before .before .before .before .before .before .args .weights .now) (c .before .before .before .before .before .before .before .before .before .before .args .d .now) (c .before .before .before .before .before .before .before .before .before .before .args .beta .now) (c .before .before .before .before .before .before .variables .ensures) (c .before .before .before .before .before .links-norm .ensures) (c .before .before .before .before .rows-norm .ensures) (c .before .before .rows-norm2 .ensures) (c .before .larger .ensures) (c .larger2 .ensures)
+
+pub worst-spec : {M : Type 1} → statement M
+worst-spec =
+    tie.close
+    (tie.spec
+    variables-requires
+    links-norm-requires
+    rows-norm-requires
+    add-rows-norm
+    rows-norm-requires-2
+    larger-requires
+    larger-requires-2
+    returns)

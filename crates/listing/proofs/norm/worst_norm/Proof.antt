@@ -1,0 +1,79 @@
+-- `listing::norm::worst_norm` meets its contract: each return is the first cause met, or the norm (`Answers`). Assumes nothing.
+use mathlib.Core.Path.{_≡_, sym, _∙_}
+use native.Mathlib.Omega.{arith}
+use borrow.Author.Tests.{eqb-true, not-true, not-false}
+use lib.Dec.{eqb}
+use lib.ListN.{length}
+use Rattle.plan.specs.Causes.{first}
+use Rattle.plan.specs.Numbers.{columns, checked}
+use Rattle.plan.specs.Parts.{partCauses}
+use Rattle.plan.specs.declared.numbers.Checked.the-variants.{Accepted, Refused}
+use Rattle.plan.proofs.Bounds.{prime-low}
+use Rattle.plan.proofs.Refusals.{lent-of, call-within}
+use Rattle.listing.proofs.Answers.{norm-numbers, norm-parts, norm-values, norm-answer}
+use borrow.Author.Needs.{needs}
+use Rattle.listing.proofs.norm.worst_norm.Statement.{statement}
+use Rattle.listing.proofs.norm.worst_norm.Tie as tie
+
+new-requires : tie.Need-new-requires
+new-requires c κs = search needs
+
+enum-known-k : tie.Need-enum-known-k
+enum-known-k c = search needs
+
+enum-known-plan : tie.Need-enum-known-plan
+enum-known-plan c = search needs
+
+refused : (c : tie.After-k) → checked (c .before .before .before .before .before .before .before .args .p) (c .before .before .before .before .before .before .before .args .s) (c .before .before .before .before .before .before .before .args .n) (c .before .before .before .before .before .before .before .args .m) (c .before .before .before .before .before .before .before .args .t) ≡ Refused (c .k .given .0 .0)
+refused c = sym (c .before .before .new .ensures) ∙ c .k .given .1
+
+accepted : (c : tie.After-plan) → checked (c .before .before .before .before .before .before .before .args .p) (c .before .before .before .before .before .before .before .args .s) (c .before .before .before .before .before .before .before .args .n) (c .before .before .before .before .before .before .before .args .m) (c .before .before .before .before .before .before .before .args .t) ≡ Accepted (c .plan .given .0 .0)
+accepted c = sym (c .before .before .new .ensures) ∙ c .plan .given .1
+
+-- the parts' refusal, with β's length against the plan's columns
+parts : (c : tie.After-part-refusal) → let P = c .before .before .before .plan .given .0 .0 in
+    c .part-refusal .result ≡ first (partCauses P (c .before .before .before .before .before .before .before .before .before .before .args .weights .now) (c .before .before .before .before .before .before .before .before .before .before .args .tables .now) (c .before .before .before .before .before .before .before .before .before .before .args .d .now) (eqb (length (c .before .before .before .before .before .before .before .before .before .before .args .beta .now)) (columns P)))
+parts c = rw (c .before .columns .ensures) at (c .part-refusal .ensures)
+
+columns-requires : tie.Need-columns-requires
+columns-requires c κs = call-within _ _ _ _ _ (accepted (c .before))
+
+part-refusal-requires : tie.Need-part-refusal-requires
+part-refusal-requires c κs = call-within _ _ _ _ _ (accepted (c .before .before))
+
+returns : tie.Need-returns
+returns c = norm-parts (c .before .before .before .before .before .before .before .before .before .before .before .args .p) (c .before .before .before .before .before .before .before .before .before .before .before .args .s) (c .before .before .before .before .before .before .before .before .before .before .before .args .n) (c .before .before .before .before .before .before .before .before .before .before .before .args .m) (c .before .before .before .before .before .before .before .before .before .before .before .args .t) (c .before .before .before .before .before .before .before .before .before .before .before .args .weights .now) (c .before .before .before .before .before .before .before .before .before .before .before .args .tables .now) (c .before .before .before .before .before .before .before .before .before .before .before .args .d .now) (c .before .before .before .before .before .before .before .before .before .before .before .args .beta .now) (c .before .before .before .before .plan .given .0 .0) (accepted (c .before .before .before .before)) (c .before .part-refusal .result) (parts (c .before)) (c .if1 .taken)
+
+all-below-requires : tie.Need-all-below-requires
+all-below-requires c κs = omega (arith, prime-low (call-within _ _ _ _ _ (accepted (c .before .before .before .before))))
+
+returns-2 : tie.Need-returns-2
+returns-2 c = norm-values (c .before .before .before .before .before .before .before .before .before .before .before .before .before .args .p) (c .before .before .before .before .before .before .before .before .before .before .before .before .before .args .s) (c .before .before .before .before .before .before .before .before .before .before .before .before .before .args .n) (c .before .before .before .before .before .before .before .before .before .before .before .before .before .args .m) (c .before .before .before .before .before .before .before .before .before .before .before .before .before .args .t) (c .before .before .before .before .before .before .before .before .before .before .before .before .before .args .weights .now) (c .before .before .before .before .before .before .before .before .before .before .before .before .before .args .tables .now) (c .before .before .before .before .before .before .before .before .before .before .before .before .before .args .d .now) (c .before .before .before .before .before .before .before .before .before .before .before .before .before .args .beta .now) (c .before .before .before .before .before .before .plan .given .0 .0) (accepted (c .before .before .before .before .before .before)) (sym (c .before .before .if1 .left) ∙ parts (c .before .before .before)) (sym (c .before .all-below .ensures) ∙ not-true _ (c .if2 .taken))
+
+worst-requires : tie.Need-worst-requires
+worst-requires c κs =
+    let within = call-within _ _ _ _ _ (accepted (c .before .before .before .before .before .before)) in
+    let lent = lent-of _ _ _ _ _ within (sym (parts (c .before .before .before)) ∙ c .before .before .if1 .left) in
+    (within, (lent .0 .weights-length, (lent .0 .products-length, eqb-true _ _ (lent .1))))
+
+returns-3 : tie.Need-returns-3
+returns-3 c = norm-numbers (c .before .before .before .before .before .before .before .before .args .p) (c .before .before .before .before .before .before .before .before .args .s) (c .before .before .before .before .before .before .before .before .args .n) (c .before .before .before .before .before .before .before .before .args .m) (c .before .before .before .before .before .before .before .before .args .t) (c .before .before .before .before .before .before .before .before .args .weights .now) (c .before .before .before .before .before .before .before .before .args .tables .now) (c .before .before .before .before .before .before .before .before .args .d .now) (c .before .before .before .before .before .before .before .before .args .beta .now) (c .before .k .given .0 .0) (refused (c .before))
+
+returns-4 : tie.Need-returns-4
+returns-4 c = norm-answer (c .before .before .before .before .before .before .before .before .before .before .before .before .before .before .args .p) (c .before .before .before .before .before .before .before .before .before .before .before .before .before .before .args .s) (c .before .before .before .before .before .before .before .before .before .before .before .before .before .before .args .n) (c .before .before .before .before .before .before .before .before .before .before .before .before .before .before .args .m) (c .before .before .before .before .before .before .before .before .before .before .before .before .before .before .args .t) (c .before .before .before .before .before .before .before .before .before .before .before .before .before .before .args .weights .now) (c .before .before .before .before .before .before .before .before .before .before .before .before .before .before .args .tables .now) (c .before .before .before .before .before .before .before .before .before .before .before .before .before .before .args .d .now) (c .before .before .before .before .before .before .before .before .before .before .before .before .before .before .args .beta .now) (c .before .before .before .before .before .before .before .plan .given .0 .0) (accepted (c .before .before .before .before .before .before .before)) (sym (c .before .before .before .if1 .left) ∙ parts (c .before .before .before .before)) (c .worst .result) (sym (c .before .before .all-below .ensures) ∙ not-false _ (c .before .if2 .left)) (c .worst .ensures)
+
+pub worst-norm-spec : {M : Type 1} → statement M
+worst-norm-spec =
+    tie.close
+    (tie.spec
+    new-requires
+    enum-known-k
+    enum-known-plan
+    columns-requires
+    part-refusal-requires
+    returns
+    all-below-requires
+    returns-2
+    worst-requires
+    returns-3
+    returns-4)

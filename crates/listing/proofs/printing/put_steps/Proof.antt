@@ -1,0 +1,118 @@
+-- `listing::printing::put_steps` meets its contract: after i turns the lines of the first i steps are written (`Lines`).
+-- Assumes nothing.
+use Prim.Native.Nat.{_+_, _-_, _*_, _/_, _≤_}
+use native.Mathlib.Omega.{arith}
+use lib.ListN.{length}
+use Rattle.lists.specs.Places.{joined}
+use Rattle.listing.specs.Printed.{stepLine}
+use Rattle.listing.proofs.Puts.{Put, put-length}
+use Rattle.listing.proofs.Lines.{lines-none, lines-left, lines-turn, lines-done}
+use Rattle.listing.proofs.printing.put_steps.Statement.{statement}
+use Rattle.listing.proofs.printing.put_steps.Tie as tie
+
+abbrev Inv-loop : tie.InvT-loop
+Inv-loop steps out₀ at count next₀ i₀ out next i = (i ≤ length steps / 4) × Put out₀ at (joined (stepLine steps) i) out next
+
+abbrev μ-loop : tie.MeasureT-loop
+μ-loop steps out₀ at count next₀ i₀ out next i = length steps / 4 - i
+
+loop-holds : tie.Need-loop-holds Inv-loop μ-loop
+loop-holds c = (omega arith, lines-none (c .before .before .args .steps .now) (c .before .before .pre .0) (c .before .before .args .out .now) (c .before .before .args .at) (omega (arith, c .before .before .pre .1)))
+
+mul-k : tie.Need-mul-k Inv-loop μ-loop
+mul-k c = omega arith
+
+mul-put-step : tie.Need-mul-put-step Inv-loop μ-loop
+mul-put-step c = omega arith
+
+shared-slice-read-put-step : tie.Need-shared-slice-read-put-step Inv-loop μ-loop
+shared-slice-read-put-step c = omega arith
+
+cast-put-step : tie.Need-cast-put-step Inv-loop μ-loop
+cast-put-step c = omega (arith, c .before .before .before .before .before .before .pre .0 (4 * c .before .before .before .loop .i))
+
+add-put-step : tie.Need-add-put-step Inv-loop μ-loop
+add-put-step c = omega arith
+
+mul-put-step-2 : tie.Need-mul-put-step-2 Inv-loop μ-loop
+mul-put-step-2 c = omega arith
+
+shared-slice-read-put-step-2 : tie.Need-shared-slice-read-put-step-2 Inv-loop μ-loop
+shared-slice-read-put-step-2 c = omega arith
+
+cast-put-step-2 : tie.Need-cast-put-step-2 Inv-loop μ-loop
+cast-put-step-2 c = omega (arith, c .before .before .before .before .before .before .before .pre .0 (4 * c .before .before .before .before .loop .i + 1))
+
+add-put-step-2 : tie.Need-add-put-step-2 Inv-loop μ-loop
+add-put-step-2 c = omega arith
+
+mul-put-step-3 : tie.Need-mul-put-step-3 Inv-loop μ-loop
+mul-put-step-3 c = omega arith
+
+shared-slice-read-put-step-3 : tie.Need-shared-slice-read-put-step-3 Inv-loop μ-loop
+shared-slice-read-put-step-3 c = omega arith
+
+cast-put-step-3 : tie.Need-cast-put-step-3 Inv-loop μ-loop
+cast-put-step-3 c = omega (arith, c .before .before .before .before .before .before .before .before .pre .0 (4 * c .before .before .before .before .before .loop .i + 2))
+
+add-put-step-3 : tie.Need-add-put-step-3 Inv-loop μ-loop
+add-put-step-3 c = omega arith
+
+mul-put-step-4 : tie.Need-mul-put-step-4 Inv-loop μ-loop
+mul-put-step-4 c = omega arith
+
+shared-slice-read-put-step-4 : tie.Need-shared-slice-read-put-step-4 Inv-loop μ-loop
+shared-slice-read-put-step-4 c = omega arith
+
+cast-put-step-4 : tie.Need-cast-put-step-4 Inv-loop μ-loop
+cast-put-step-4 c = omega (arith, c .before .before .before .before .before .before .before .before .before .pre .0 (4 * c .before .before .before .before .before .before .loop .i + 3))
+
+put-step-requires : tie.Need-put-step-requires Inv-loop μ-loop
+put-step-requires c κs = (lines-left (c .before .before .before .before .before .before .before .before .before .args .steps .now) (c .before .before .before .before .before .before .before .before .before .pre .0) (c .before .before .before .before .before .before .loop .i) (c .before .before .before .before .before .before .loop .inv .1) (c .before .before .before .before .before .loop-test .taken) (c .before .before .before .before .before .before .before .before .before .pre .1), (c .before .before .before .before .before .before .before .before .before .pre .0 (4 * c .before .before .before .before .before .before .loop .i), c .before .before .before .before .before .before .before .before .before .pre .0 (4 * c .before .before .before .before .before .before .loop .i + 1), c .before .before .before .before .before .before .before .before .before .pre .0 (4 * c .before .before .before .before .before .before .loop .i + 2), c .before .before .before .before .before .before .before .before .before .pre .0 (4 * c .before .before .before .before .before .before .loop .i + 3)))
+
+add-i : tie.Need-add-i Inv-loop μ-loop
+add-i c = omega arith
+
+loop-less : tie.Need-loop-less Inv-loop μ-loop
+loop-less c = omega arith
+
+loop-again : tie.Need-loop-again Inv-loop μ-loop
+loop-again c = (omega arith, lines-turn (c .before .before .before .before .before .before .before .before .before .before .before .before .args .steps .now) (c .before .before .before .before .before .before .before .before .before .before .before .before .pre .0) (c .before .before .before .before .before .before .before .before .before .loop .i) (c .before .before .before .before .before .before .before .before .before .loop .inv .1) (c .before .before .before .before .before .before .before .before .loop-test .taken) (c .before .before .before .before .before .before .before .before .before .before .before .before .pre .1) (c .before .before .put-step .ensures .0) (c .before .before .put-step .ensures .1))
+
+same-length : tie.Need-same-length Inv-loop μ-loop
+same-length c = put-length (c .before .loop .inv .1)
+
+returns : tie.Need-returns Inv-loop μ-loop
+returns c =
+    let r = lines-done (c .before .before .before .before .args .steps .now) (c .before .before .before .before .pre .0) (c .before .loop .i) (c .before .loop .inv .1) (c .before .loop .inv .0) (c .loop-test .left) in
+    (r .list, r .ends)
+
+pub put-steps-spec : {M : Type 1} → statement M
+put-steps-spec =
+    tie.close
+    (tie.spec
+    Inv-loop
+    μ-loop
+    loop-holds
+    mul-k
+    mul-put-step
+    shared-slice-read-put-step
+    cast-put-step
+    add-put-step
+    mul-put-step-2
+    shared-slice-read-put-step-2
+    cast-put-step-2
+    add-put-step-2
+    mul-put-step-3
+    shared-slice-read-put-step-3
+    cast-put-step-3
+    add-put-step-3
+    mul-put-step-4
+    shared-slice-read-put-step-4
+    cast-put-step-4
+    put-step-requires
+    add-i
+    loop-less
+    loop-again
+    same-length
+    returns)
