@@ -1,6 +1,8 @@
 // The cases of 01 that are left to programs, and the extremes of each number. Every line is a call's answer after its name; the file
 // `stdout` beside src/ has what they must be.
+mod programs;
 mod rows;
+mod stores;
 
 // A name, a space, a number and a line end.
 pub fn say(name: &[u8], number: u8) {
@@ -133,4 +135,10 @@ fn main() {
     rows::entries();
     rows::xor();
     rows::linked();
+    stores::xor();
+    stores::damaged();
+    stores::larger();
+    programs::xor();
+    programs::unwritten();
+    programs::foreign();
 }

@@ -1,16 +1,15 @@
 -- Decimal digits: a number below 10 is its digit, and any other is the digits of its tenth part and the last one.
 --     decimal-one, decimal-next      the two cases, for a number of 64 bits
 --     decimal-short                  a number below 10 ^ (k + 1) has at most k + 1 digits
---     decimal-words, decimal-small   at most 20 digits in 64 bits, and at most 3 below 1,000
+--     decimal-most                   at most 20 digits
+--     decimal-tenth, decimal-small   at most 19 for the tenth part of a number of 64 bits, and at most 3 below 1,000
 -- Assumes nothing.
-use mathlib.Core.Path.{_≡_, refl, sym, ap, _∙_}
-use mathlib.Core.Bool.{cond}
+use mathlib.Core.Path.{_≡_, sym, ap, _∙_}
 use mathlib.Core.List.{List, [], _∷_, _++_}
-use Prim.Native.Nat.{ℕ, zero, suc, _+_, _*_, _/_, _%_, _^_, _≤_, _<_}
+use Prim.Native.Nat.{ℕ, zero, suc, _+_, _/_, _%_, _^_, _≤_, _<_}
 use native.Mathlib.Nat.{mod-eq-of-lt, pow-suc}
 use native.Mathlib.Decide.{decLt}
 use native.Mathlib.Omega.{arith}
-use lib.Dec.{ltb}
 use lib.ListN.{length, length-append}
 use borrow.Author.Tests.{lt-ltb, le-ltb}
 use Rattle.listing.specs.Decimal.{digitsOf, decimal}
@@ -61,8 +60,17 @@ pub decimal-short : (k n : ℕ) → n < 10 ^ suc k → length (decimal n) ≤ su
 unfolding decimal
 decimal-short k n h = digits-short 19 k n h
 
-pub decimal-words : (n : ℕ) → n < 2 ^ 64 → length (decimal n) ≤ 20
-decimal-words n h = decimal-short 19 n (omega arith)
+digits-most : (most n : ℕ) → length (digitsOf most n) ≤ suc most
+unfolding digitsOf
+digits-most zero n = omega arith
+digits-most (suc most) n = elim (decLt n 10) [
+  | yes l ↦ rw (digits-one (suc most) n l) (omega arith)
+  | no l ↦ rw (digits-next most n (omega arith), length-append) (omega (arith, digits-most most (n / 10)))
+]
+
+pub decimal-most : (n : ℕ) → length (decimal n) ≤ 20
+unfolding decimal
+decimal-most n = digits-most 19 n
 
 pub decimal-tenth : (n : ℕ) → n < 2 ^ 64 → length (decimal (n / 10)) ≤ 19
 decimal-tenth n h = decimal-short 18 (n / 10) (omega arith)

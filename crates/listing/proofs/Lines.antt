@@ -2,13 +2,13 @@
 --     ended n b                            the digits of n and the byte b
 --     put-digit, put-front, put-last       the digits, as the code writes them
 --     line-two, line-three, line-four      a line of two, three or four numbers, as the code writes it
---     ended-words, ended-small             the lengths, by the numbers' sizes
+--     ended-most, ended-small              the length, of any number and of one below 1,000
 --     line-small                           a line of four numbers below 1,000 has at most 16 bytes
---     words-two, words-three               the same for lines of numbers of 64 bits
+--     two-most, three-most                 the length of a line of two or three numbers
 --     lines-room                           the length of a line for each step
 --     lines-none, lines-left, lines-turn, lines-done      a loop that writes them
 -- Assumes nothing.
-use mathlib.Core.Path.{_≡_, refl, sym, ap, subst, _∙_}
+use mathlib.Core.Path.{_≡_, refl, sym, subst}
 use mathlib.Core.List.{List, [], _∷_, _++_, append-assoc, append-nil}
 use Prim.Native.Nat.{ℕ, zero, suc, _+_, _*_, _/_, _%_, _^_, _≤_, _<_}
 use native.Mathlib.Nat.{le-antisymm}
@@ -19,14 +19,14 @@ use Rattle.lists.specs.Places.{joined, placed, at}
 use Rattle.lists.proofs.Placing.{placed-set}
 use Rattle.listing.specs.Decimal.{decimal, spaced, line}
 use Rattle.listing.specs.Printed.{stepLine}
-use Rattle.listing.proofs.Digits.{decimal-one, decimal-next, decimal-words, decimal-tenth, decimal-small}
+use Rattle.listing.proofs.Digits.{decimal-one, decimal-next, decimal-most, decimal-tenth, decimal-small}
 use Rattle.listing.proofs.Puts.{Put, put-first, put-byte, put-next, put-length, left-none}
 
 abbrev pub ended : ℕ → ℕ → List ℕ
 ended n b = decimal n ++ (b ∷ [])
 
-pub ended-words : (n b : ℕ) → n < 2 ^ 64 → length (ended n b) ≤ 21
-ended-words n b h = rw length-append (omega (arith, decimal-words n h))
+pub ended-most : (n b : ℕ) → length (ended n b) ≤ 21
+ended-most n b = rw length-append (omega (arith, decimal-most n))
 
 pub ended-small : (n b : ℕ) → n < 1000 → length (ended n b) ≤ 4
 ended-small n b h = rw length-append (omega (arith, decimal-small n h))
@@ -92,11 +92,9 @@ module _ (steps : List ℕ) (small : (i : ℕ) → at steps i < 1000) where
   pub lines-done : {e out : List ℕ} {k next : ℕ} (i : ℕ) → Put e k (joined (stepLine steps) i) out next → i ≤ length steps / 4 → length steps / 4 ≤ i → Put e k (joined (stepLine steps) (length steps / 4)) out next
   lines-done {e} {out} {k} {next} i p h l = subst (λ (n : ℕ). Put e k (joined (stepLine steps) n) out next) (le-antisymm h l) p
 
-pub words-three : (a b c : ℕ) → a < 2 ^ 64 → b < 2 ^ 64 → c < 2 ^ 64 → length (line (a ∷ b ∷ c ∷ [])) ≤ 63
-words-three a b c ha hb hc =
-    rw (← line-three a b c)
-    (simp length-append (omega (arith, decimal-words a ha, decimal-words b hb, decimal-words c hc)))
+pub three-most : (a b c : ℕ) → length (line (a ∷ b ∷ c ∷ [])) ≤ 63
+three-most a b c =
+    rw (← line-three a b c) (simp length-append (omega (arith, decimal-most a, decimal-most b, decimal-most c)))
 
-pub words-two : (a b : ℕ) → a < 2 ^ 64 → b < 2 ^ 64 → length (line (a ∷ b ∷ [])) ≤ 42
-words-two a b ha hb =
-    rw (← line-two a b) (simp length-append (omega (arith, decimal-words a ha, decimal-words b hb)))
+pub two-most : (a b : ℕ) → length (line (a ∷ b ∷ [])) ≤ 42
+two-most a b = rw (← line-two a b) (simp length-append (omega (arith, decimal-most a, decimal-most b)))

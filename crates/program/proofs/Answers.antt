@@ -5,7 +5,7 @@
 --     run-numbers, run-parts, run-eleven, run-twelve, run-done       the run's answer by the tests
 --     written-refused, written-done, handed-refused, handed-done       what the writer leaves and hands back
 -- Assumes nothing.
-use mathlib.Core.Path.{_≡_, refl, sym, ap, subst, _∙_}
+use mathlib.Core.Path.{_≡_, refl, sym, ap, _∙_}
 use mathlib.Core.Bool.{Bool, true, false, cond, not}
 use mathlib.Core.List.{List, [], _∷_, _++_}
 use Prim.Native.Nat.{ℕ, zero, suc, _+_, _*_, _≤_, _<_}
@@ -18,16 +18,15 @@ use Rattle.lists.specs.Places.{placed}
 use Rattle.field.specs.Residues.{Residues}
 use Rattle.field.specs.Rows.{allBelow}
 use Rattle.field.proofs.Ranges.{residues-of}
-use Rattle.plan.specs.Causes.{first, result}
+use Rattle.plan.specs.Causes.{first}
 use Rattle.plan.specs.Numbers.{columns, plan, checked, numberCauses, Within}
 use Rattle.plan.specs.Parts.{partCauses, callCauses, Lent}
 use Rattle.plan.specs.declared.numbers.Plan.{Plan}
 use Rattle.plan.specs.declared.numbers.Checked.the-variants.{Accepted, Refused}
-use Rattle.plan.proofs.Refusals.{orElse, Numbered, first-append, first-refused, first-passed, result-refused, within-of, lent-of, call-numbers, call-parts, call-passed, call-plan}
+use Rattle.plan.proofs.Refusals.{orElse, Numbered, first-append, first-refused, first-passed, result-refused, within-of, lent-of, call-numbers, call-parts, call-passed}
 use Rattle.program.specs.Steps.{wellFormed}
 use Rattle.program.specs.Layout.{layout, stepCount}
 use Rattle.program.specs.Calls.{writeCauses, writingCauses, runCauses, written, handed, ran}
-use Rattle.program.specs.declared.running.Ran.{Ran}
 use Rattle.program.specs.declared.running.Ran.the-variants.{Done, Refused as RunRefused}
 use Rattle.program.proofs.Shape.{layout-length}
 

@@ -1,19 +1,17 @@
 -- Demand 2: the written program, run on the digits of an entry, yields the right-hand side of Equation 1 modulo p.
 -- After link k the registers are the chain of variables with its next link (`goes-link`, `goes-links`). A product leaves the variables as
 -- they are and adds to y the product of its two weighted sums (`goes-product`), by the identity of the two square tables. The last block
--- adds its weighted sum. With all pieces one after the other, y holds the equation's right-hand side (`goes-layout`).
+-- adds its weighted sum (`goes-rest`), so that y holds the equation's right-hand side.
 --     demand2           for each entry
+--     table-link, table-square, table-minus       the three kinds of tables
 --     digits-length, digits-below       the digits of an entry are n numbers below s
 -- Assumes nothing.
 use mathlib.Core.Path.{_≡_, refl, sym, ap, ap₂, fun-ext, subst, _∙_}
-use mathlib.Core.Bool.{Bool, true, false, cond}
-use mathlib.Core.Logic.{_≢_}
 use mathlib.Core.List.{List, [], _∷_, _++_}
-use Prim.Native.Nat.{ℕ, zero, suc, _+_, _-_, _*_, _/_, _%_, _^_, _≤_, _<_}
+use Prim.Native.Nat.{ℕ, suc, _+_, _-_, _*_, _%_, _<_}
 use native.Mathlib.Decide.{ℕ-discrete, decLt}
-use native.Mathlib.Nat.{add-zero, zero-add, one-mul, mod-lt, mod-mod, mod-eq-of-lt, mod-add-mod, le-refl}
+use native.Mathlib.Nat.{one-mul, mod-lt, mod-mod, mod-eq-of-lt, mod-add-mod, le-refl}
 use native.Mathlib.Omega.{arith}
-use lib.Dec.{eqb, ltb}
 use lib.ListN.{length, length-append, List·getD-append}
 use lib.Seq.{getD-append-seam}
 use borrow.Author.Tests.{eq-eqb, ne-eqb, lt-ltb, le-ltb}
@@ -21,11 +19,11 @@ use Rattle.lists.specs.Places.{sum, tab, joined, at}
 use Rattle.lists.proofs.Sums.{sum-zero, sum-suc, sum-ext}
 use Rattle.lists.proofs.Tabs.{tab-length, tab-at}
 use Rattle.lists.proofs.Parts.{at-past}
-use Rattle.field.specs.Residues.{Residues, square, minusSquare}
-use Rattle.field.proofs.Modular.{mods, cong-add, cong-mul}
+use Rattle.field.specs.Residues.{square, minusSquare}
+use Rattle.field.proofs.Modular.{cong-add, cong-mul}
 use Rattle.field.proofs.Products.{product}
-use Rattle.plan.specs.Numbers.{variables, columns, entries, Within}
-use Rattle.plan.specs.Parts.{linkStart, Lent}
+use Rattle.plan.specs.Numbers.{variables, Within}
+use Rattle.plan.specs.Parts.{linkStart}
 use Rattle.plan.specs.Rows.{digit, link, chain, values}
 use Rattle.plan.specs.Equation.{equation1}
 use Rattle.plan.specs.declared.numbers.Plan.{Plan}
@@ -33,9 +31,9 @@ use Rattle.plan.proofs.Bounds.{prime-low}
 use Rattle.plan.proofs.Chains.{chain-length, values-length}
 use Rattle.plan.proofs.Digits.{digit-below}
 use Rattle.program.specs.Steps.{tableAt, Registers, put, output}
-use Rattle.program.specs.Layout.{step, clear, add, boot, adds, linkSteps, productSteps, layout}
+use Rattle.program.specs.Layout.{clear, adds, linkSteps, productSteps, layout}
 use Rattle.program.proofs.Pieces.{Goes, goes-then, goes-to, goes-joined, goes-registers}
-use Rattle.program.proofs.Effects.{put-same, put-other, put-put, put-get, goes-clear, goes-add, goes-boot, goes-adds, goes-sum, goes-pair}
+use Rattle.program.proofs.Effects.{put-same, put-other, put-put, goes-clear, goes-add, goes-boot, goes-adds, goes-sum, goes-pair}
 
 pub digits-length : (P : Plan) (i : ℕ) → length (tab (P .n) (digit P i)) ≡ P .n
 digits-length P i = tab-length (P .n) (digit P i)

@@ -7,19 +7,18 @@
 use mathlib.Core.Path.{_≡_, refl, sym, ap, ap₂, fun-ext, _∙_}
 use mathlib.Core.Bool.{Bool, true, false, cond}
 use mathlib.Core.Logic.{_≢_}
-use mathlib.Core.List.{List, [], _∷_, _++_}
-use Prim.Native.Nat.{ℕ, zero, suc, _+_, _-_, _*_, _/_, _%_, _≤_, _<_}
+use mathlib.Core.List.{List, _++_}
+use Prim.Native.Nat.{ℕ, zero, suc, _+_, _*_, _%_, _≤_, _<_}
 use native.Mathlib.Decide.{ℕ-discrete}
 use native.Mathlib.Nat.{add-zero, zero-add, one-mul, mod-eq-of-lt, mod-add-mod}
 use native.Mathlib.Omega.{arith}
 use lib.Dec.{eqb}
 use borrow.Author.Tests.{eq-eqb, ne-eqb}
-use Rattle.lists.specs.Places.{sum, joined, at}
+use Rattle.lists.specs.Places.{sum, joined}
 use Rattle.lists.proofs.Sums.{sum-zero, sum-suc, sum-ext}
-use Rattle.field.proofs.Modular.{mods}
 use Rattle.plan.specs.declared.numbers.Plan.{Plan}
 use Rattle.program.specs.Steps.{tableAt, Registers, put, after}
-use Rattle.program.specs.Layout.{step, clear, add, boot, adds}
+use Rattle.program.specs.Layout.{clear, add, boot, adds}
 use Rattle.program.proofs.Pieces.{Goes, goes-then, goes-to, goes-none, goes-step}
 
 pub put-same : (f : Registers) (r v : ℕ) → put f r v r ≡ v

@@ -1,15 +1,16 @@
 -- The code's registers, a list of 69 numbers, against the definition's, and the facts about tests and tables that the run uses.
---     short, bad, good         cause 11 from the test of each step; well-formed, step-facts       the facts from the test
+--     short, bad, good-none, good-next, good       cause 11 from the test of each step
+--     well-formed, step-facts, step-at             what a well-formed list says of its steps
 --     small-inverse            the inverse of 4 from that of its residue
---     square-small, minus-zero, minus-other       table m+1 from table m
+--     square-small, minus-zero, minus-other, table-small       the tables' values
 --     Loaded                   the registers being filled with the digits
 --     Running                  the run's state before step k: the registers, each a residue, and the bootstraps so far
---     running-clear, running-add, running-boot       one step
+--     running-none, running-clear, running-add, running-boot, running-all       its beginning, one step, its end
 -- Assumes nothing.
-use mathlib.Core.Path.{_≡_, refl, sym, ap, ap₂, fun-ext, subst, _∙_}
+use mathlib.Core.Path.{_≡_, refl, sym, ap, fun-ext, subst, _∙_}
 use mathlib.Core.Bool.{Bool, true, false, cond, _&&_, true≢false}
 use mathlib.Core.Logic.{_≢_}
-use mathlib.Core.List.{List, [], _∷_, _++_}
+use mathlib.Core.List.{List}
 use Prim.Native.Nat.{ℕ, zero, suc, _+_, _-_, _*_, _/_, _%_, _^_, _≤_, _<_}
 use native.Mathlib.Decide.{ℕ-discrete, decLt}
 use native.Mathlib.Nat.{mod-lt, mod-mod, mod-self, mod-eq-of-lt}
@@ -25,12 +26,9 @@ use Rattle.lists.proofs.Tests.{both, both-true, every-at, every-next}
 use Rattle.lists.proofs.Parts.{at-past}
 use Rattle.field.specs.Residues.{Residues, inverse, square, minusSquare}
 use Rattle.field.proofs.Modular.{pow-cong}
-use Rattle.plan.specs.Numbers.{variables, Within}
-use Rattle.plan.specs.Parts.{Lent}
 use Rattle.plan.specs.declared.numbers.Plan.{Plan}
 use Rattle.program.specs.Steps.{lastRegister, tableAt, kindOf, toOf, fromOf, byOf, goodStep, wellFormed, put, after, registers, bootstraps, output}
 use Rattle.program.proofs.Effects.{put-same, put-other}
-use Rattle.program.proofs.Demand2.{table-link, table-square, table-minus}
 
 decided : (b : Bool) → (b ≡ true → ⊥) → b ≡ false
 decided true h = absurd (h refl)

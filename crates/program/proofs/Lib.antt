@@ -6,3 +6,4 @@ pub mod Shape
 pub mod Placement
 pub mod Interpreting
 pub mod Answers
+pub mod Entries

@@ -1,20 +1,22 @@
 -- Writing pieces into the caller's slice, one behind the other (`Room` and `Wrote` of specs/Placed.antt).
 --     wrote-none, wrote-step         nothing, and one step
 --     room-front, wrote-room         the room for two pieces: for the first, and for the second once the first is written
---     wrote-then                     two pieces one behind the other
+--     wrote-then, wrote-3, wrote-4, wrote-6       two and more pieces one behind the other
 --     wrote-length                   the slice keeps its length
---     joined-next, joined-room       a list of pieces with its next piece, and the room for both
+--     none-joined, next-room, wrote-next, joined-all       a loop over a list of pieces
+--     adds-none, adds-room, adds-next, adds-all            a loop over the steps of a sum
 --     adds-cut                       the sum over a part of a list of weights
---     link-room, ..                  the pieces of a link, a product and the whole program in the order of the calls
+--     sumSteps                       a sum's piece as the code writes it
+--     link-split, product-split, layout-split       a link, a product and the program in the order of the calls
 -- Assumes nothing.
-use mathlib.Core.Path.{_≡_, refl, sym, ap, ap₂, subst, fun-ext, _∙_}
-use mathlib.Core.List.{List, [], _∷_, _++_, append-assoc}
+use mathlib.Core.Path.{_≡_, refl, sym, ap, ap₂, subst, _∙_}
+use mathlib.Core.List.{List, [], _++_, append-assoc}
 use Prim.Native.Nat.{ℕ, zero, suc, _+_, _-_, _*_, _≤_, _<_}
 use native.Mathlib.Nat.{add-zero, add-suc, le-step, lt-suc-self, add-sub-cancel-left}
 use native.Mathlib.Numerals.{add-one}
 use native.Mathlib.Omega.{arith}
 use lib.ListN.{length, set, take, drop, length-append}
-use lib.Seq.{sets, sets-eq}
+use lib.Seq.{sets-eq}
 use Rattle.lists.specs.Places.{joined, placed, at}
 use Rattle.lists.proofs.Placing.{placed-length, placed-nothing, placed-placed}
 use Rattle.lists.proofs.Parts.{cut-length, part-at}

@@ -5,25 +5,23 @@
 --     step-limit             the step count of a checked plan is small
 --     link-length, product-length, adds-length       the lengths of its pieces
 -- Assumes nothing.
-use mathlib.Core.Path.{_≡_, refl, sym, ap, ap₂, _∙_}
-use mathlib.Core.Bool.{Bool, true, false, cond, _&&_}
-use mathlib.Core.List.{List, [], _∷_, _++_}
-use Prim.Native.Nat.{ℕ, zero, suc, _+_, _-_, _*_, _/_, _%_, _≤_, _<_}
+use mathlib.Core.Path.{_≡_, refl, _∙_}
+use mathlib.Core.Bool.{true}
+use mathlib.Core.List.{List}
+use Prim.Native.Nat.{ℕ, zero, suc, _+_, _-_, _*_, _/_, _≤_, _<_}
 use native.Mathlib.Nat.{le-refl, mul-le-mul}
 use native.Mathlib.Omega.{arith}
-use lib.Dec.{eqb, ltb, leb}
 use lib.ListN.{length, length-append}
 use borrow.Author.Tests.{le-leb, lt-ltb}
 use Rattle.lists.specs.Places.{sum, joined, at}
 use Rattle.lists.proofs.Sums.{sum-zero, sum-suc}
-use Rattle.lists.proofs.Tests.{both}
 use Rattle.field.specs.Residues.{Residues}
 use Rattle.plan.specs.Numbers.{variables, Within}
 use Rattle.plan.specs.Parts.{linkStart, Lent}
 use Rattle.plan.specs.declared.numbers.Plan.{Plan}
 use Rattle.plan.proofs.Bounds.{prime-low}
 use Rattle.program.specs.Steps.{lastRegister, goodStep, wellFormed, bootstraps}
-use Rattle.program.specs.Layout.{step, clear, add, boot, adds, linkSteps, productSteps, layout, stepCount}
+use Rattle.program.specs.Layout.{clear, add, boot, adds, linkSteps, productSteps, layout, stepCount}
 use Rattle.program.proofs.Pieces.{Good, good-then, good-step, good-joined, good-wellFormed, Boots, boots-then, boots-step, boots-joined}
 
 -- lengths

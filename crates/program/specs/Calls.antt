@@ -5,7 +5,7 @@
 --     written k P ..    the step slice after the writer: the layout and the rest as it was, or, refusing, all as it was
 --     handed k P ..     what the writer hands back: the layout, or, refusing, nothing
 --     ran k y count     the run's answer from its refusal: `Done` with y and the number of bootstraps, or `Refused` with 01's number
-use mathlib.Core.Bool.{Bool, not, _&&_}
+use mathlib.Core.Bool.{Bool, not}
 use mathlib.Core.List.{List, [], _∷_, _++_}
 use Prim.Native.Nat.{ℕ, zero, suc, _*_}
 use lib.Dec.{eqb, ltb}

@@ -9,7 +9,7 @@
 --     registers P T steps digits k     the registers after the first k steps: "Registers 0 to n−1 start as the digits, all others as 0"
 --     bootstraps steps            "the count of kind 2 steps in the list given"
 --     output P T steps digits     y after the whole list
-use mathlib.Core.Bool.{Bool, true, false, cond, not, _&&_, _||_}
+use mathlib.Core.Bool.{Bool, cond, _&&_}
 use mathlib.Core.List.{List}
 use Prim.Native.Nat.{ℕ, zero, suc, _+_, _*_, _/_, _%_}
 use lib.Dec.{eqb, ltb, leb}

@@ -1,6 +1,5 @@
 // The entry points: any numbers and lists are taken.
 ghost use mathlib.Core.Path.{_≡_};
-ghost use mathlib.Core.List.{_++_};
 ghost use Rattle.plan.specs.Causes.{first};
 ghost use Rattle.plan.specs.Numbers.{Within, plan};
 ghost use Rattle.program.specs.Steps.{output, bootstraps};

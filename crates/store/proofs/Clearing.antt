@@ -36,71 +36,69 @@ use Rattle.store.proofs.Deferring.{left-zero}
 nothing : (p x y : ℕ) → x < p → (x + p * y) % p ≡ x
 nothing p x y l = cong-of p (x + p * y) x 0 y (omega arith) ∙ mod-eq-of-lt l
 
-pub record Cleared (p C : ℕ) (S : ℕ → ℕ → ℕ) (N : ℕ → ℕ) (k r begin : ℕ) (store : List ℕ) : Type 0 where
+pub record Cleared (p C : ℕ) (S : ℕ → ℕ → ℕ) (N : ℕ → ℕ) (k r : ℕ) (store : List ℕ) : Type 0 where
   pub within : r ≤ k
-  pub begins : begin ≡ r * (C + 1)
   pub places : length store ≡ C * (C + 1)
   pub done : (q j : ℕ) → q < C → j ≤ C → q < r → cells C store q j ≡ (S q j + (p - S q k) * N j) % p
   pub rest : (q j : ℕ) → q < C → j ≤ C → r ≤ q → cells C store q j ≡ S q j
 
-pub cleared-none : (p C : ℕ) (N : ℕ → ℕ) (k : ℕ) (store : List ℕ) → length store ≡ C * (C + 1) → Cleared p C (cells C store) N k 0 0 store
+pub cleared-none : (p C : ℕ) (N : ℕ → ℕ) (k : ℕ) (store : List ℕ) → length store ≡ C * (C + 1) → Cleared p C (cells C store) N k 0 store
 cleared-none p C N k store e =
-    record { within = omega arith; begins = omega arith; places = e; done = λ q j l h b. absurd (omega arith); rest = λ q j l h b. refl }
+    record { within = omega arith; places = e; done = λ q j l h b. absurd (omega arith); rest = λ q j l h b. refl }
 
 module _ (p C : ℕ) (S : ℕ → ℕ → ℕ) (pivot : List ℕ) (k : ℕ) (red : Reduced p C S) (line : Line p C pivot) (column : k < C) where
   pub cut-length : length (take (C + 1 - k) (drop k pivot)) ≡ C + 1 - k
   cut-length = part-length pivot k (C + 1 - k) (omega (arith, line .places))
 
-  module _ {r begin : ℕ} {store : List ℕ} (w : Cleared p C S (at pivot) k r begin store) (l : r < k) where
+  module _ {r : ℕ} {store : List ℕ} (w : Cleared p C S (at pivot) k r store) (l : r < k) where
     inside : r < C
     inside = omega arith
 
-    pub cleared-residues : 0 < p → Residues p (rowTail C store begin k)
+    pub cleared-residues : 0 < p → Residues p (rowTail C store (r * (C + 1)) k)
     cleared-residues pos =
-        tail-residues C store r k begin (w .places) inside (le-of-lt column) (w .begins) p pos
+        tail-residues C store r k (r * (C + 1)) (w .places) inside (le-of-lt column) refl p pos
         (λ j h. rw (w .rest r j inside h (omega arith)) (red .residues r j inside h))
 
     module _ (before : (j : ℕ) → j < k → at pivot j ≡ 0) (ys : List ℕ)
-        (turn : ys ≡ plusMultiple p (p - at (rowTail C store begin k) 0) (rowTail C store begin k) (take (C + 1 - k) (drop k pivot))) where
-      tail-place : (i : ℕ) → i < C + 1 - k → at (rowTail C store begin k) i ≡ S r (k + i)
+        (turn : ys ≡ plusMultiple p (p - at (rowTail C store (r * (C + 1)) k) 0) (rowTail C store (r * (C + 1)) k) (take (C + 1 - k) (drop k pivot))) where
+      tail-place : (i : ℕ) → i < C + 1 - k → at (rowTail C store (r * (C + 1)) k) i ≡ S r (k + i)
       tail-place i h =
-          tail-at C store r k begin (w .places) inside (le-of-lt column) (w .begins) i h ∙ w .rest r (k + i) inside (omega arith) (omega arith)
+          tail-at C store r k (r * (C + 1)) (w .places) inside (le-of-lt column) refl i h ∙ w .rest r (k + i) inside (omega arith) (omega arith)
 
-      count : length (rowTail C store begin k) ≡ C + 1 - k
-      count = tail-length C store r k begin (w .places) inside (le-of-lt column) (w .begins)
+      count : length (rowTail C store (r * (C + 1)) k) ≡ C + 1 - k
+      count = tail-length C store r k (r * (C + 1)) (w .places) inside (le-of-lt column) refl
 
       size : length ys ≡ C + 1 - k
-      size = ap length turn ∙ tab-length (length (rowTail C store begin k)) (λ j. (at (rowTail C store begin k) j + (p - at (rowTail C store begin k) 0) * at (take (C + 1 - k) (drop k pivot)) j) % p) ∙ count
+      size = ap length turn ∙ tab-length (length (rowTail C store (r * (C + 1)) k)) (λ j. (at (rowTail C store (r * (C + 1)) k) j + (p - at (rowTail C store (r * (C + 1)) k) 0) * at (take (C + 1 - k) (drop k pivot)) j) % p) ∙ count
 
       place : (i : ℕ) → i < C + 1 - k → at ys i ≡ (S r (k + i) + (p - S r k) * at pivot (k + i)) % p
       place i h =
           ap (λ (xs : List ℕ). at xs i) turn
-          ∙ tab-at (length (rowTail C store begin k)) (λ j. (at (rowTail C store begin k) j + (p - at (rowTail C store begin k) 0) * at (take (C + 1 - k) (drop k pivot)) j) % p) 0 i (rw count h)
+          ∙ tab-at (length (rowTail C store (r * (C + 1)) k)) (λ j. (at (rowTail C store (r * (C + 1)) k) j + (p - at (rowTail C store (r * (C + 1)) k) 0) * at (take (C + 1 - k) (drop k pivot)) j) % p) 0 i (rw count h)
           ∙ ap₂ (λ (a b : ℕ). (a + (p - b) * at (take (C + 1 - k) (drop k pivot)) i) % p) (tail-place i h) (tail-place 0 (omega arith) ∙ ap (S r) (add-zero k))
           ∙ ap (λ (a : ℕ). (S r (k + i) + (p - S r k) * a) % p) (part-at pivot k (C + 1 - k) i h)
 
-      row : (j : ℕ) → j ≤ C → cells C (tailPasted C store begin k ys) r j ≡ (S r j + (p - S r k) * at pivot j) % p
+      row : (j : ℕ) → j ≤ C → cells C (tailPasted C store (r * (C + 1)) k ys) r j ≡ (S r j + (p - S r k) * at pivot j) % p
       row j h = elim (decLt j k) [
         | yes b ↦
-            tail-left C store r k begin (w .places) inside (le-of-lt column) (w .begins) ys size j b
+            tail-left C store r k (r * (C + 1)) (w .places) inside (le-of-lt column) refl ys size j b
             ∙ w .rest r j inside h (omega arith)
             ∙ rw (before j b, mul-zero (p - S r k), add-zero (S r j)) (sym (mod-eq-of-lt (red .residues r j inside h)))
         | no b ↦
             let e : k + (j - k) ≡ j = omega arith in
-            tail-row C store r k begin (w .places) inside (le-of-lt column) (w .begins) ys size j (omega arith) h
+            tail-row C store r k (r * (C + 1)) (w .places) inside (le-of-lt column) refl ys size j (omega arith) h
             ∙ place (j - k) (omega arith)
             ∙ ap (λ (i : ℕ). (S r i + (p - S r k) * at pivot i) % p) e
       ]
 
-      other : (q j : ℕ) → q ≢ r → j ≤ C → cells C (tailPasted C store begin k ys) q j ≡ cells C store q j
-      other = tail-other C store r k begin (w .places) inside (le-of-lt column) (w .begins) ys size
+      other : (q j : ℕ) → q ≢ r → j ≤ C → cells C (tailPasted C store (r * (C + 1)) k ys) q j ≡ cells C store q j
+      other = tail-other C store r k (r * (C + 1)) (w .places) inside (le-of-lt column) refl ys size
 
-      pub cleared-next : Cleared p C S (at pivot) k (r + 1) (begin + (C + 1)) (tailPasted C store begin k ys)
+      pub cleared-next : Cleared p C S (at pivot) k (r + 1) (tailPasted C store (r * (C + 1)) k ys)
       cleared-next =
           record {
             within = omega arith;
-            begins = omega (arith, w .begins);
-            places = tail-size C store r k begin (w .places) inside (le-of-lt column) (w .begins) ys size ∙ w .places;
+            places = tail-size C store r k (r * (C + 1)) (w .places) inside (le-of-lt column) refl ys size ∙ w .places;
             done = λ q j a h b. elim (ℕ-discrete q r) [
               | yes e ↦ rw e (row j h)
               | no d ↦ other q j d h ∙ w .done q j a h (omega arith)
@@ -108,10 +106,10 @@ module _ (p C : ℕ) (S : ℕ → ℕ → ℕ) (pivot : List ℕ) (k : ℕ) (red
             rest = λ q j a h b. let d : q ≢ r = (λ e. omega arith) in other q j d h ∙ w .rest q j a h (omega arith);
           }
 
-pub cleared-all : {p C : ℕ} {S : ℕ → ℕ → ℕ} {N : ℕ → ℕ} {k r begin : ℕ} {store : List ℕ} → Cleared p C S N k r begin store → k ≤ r
+pub cleared-all : {p C : ℕ} {S : ℕ → ℕ → ℕ} {N : ℕ → ℕ} {k r : ℕ} {store : List ℕ} → Cleared p C S N k r store → k ≤ r
     → store ≡ flat C (cleared p S N k)
 unfolding cleared
-cleared-all {p} {C} {S} {N} {k} {r} {begin} {store} w h =
+cleared-all {p} {C} {S} {N} {k} {r} {store} w h =
     sym (flat-cells C store (w .places))
     ∙ flat-ext C (cells C store) (cleared p S N k)
     (λ q j l b. elim (decLt q k) [

@@ -107,13 +107,12 @@ fn clear_above(store: &mut [u8], pivot: &[u8], k: usize, c: usize, p: u8)
     ensures { λ _. ⌜ now (store .exit) ≡ flat c (cleared p (cells c (now (store .entry))) (at (now (pivot .entry))) k) ⌝ }
 {
     let width = c + 1;
-    let mut begin: usize = 0;
     let mut r: usize = 0;
     while r < k {
+        let begin = r * width;
         let a = begin + k;
         let end = begin + width;
         clear_row(&mut store[a..end], &pivot[k..width], p);
-        begin = end;
         r += 1;
     }
 }

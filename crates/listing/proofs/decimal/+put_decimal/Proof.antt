@@ -1,8 +1,6 @@
 -- `listing::decimal::put_decimal` meets its contract: one digit, or those of n / 10 and the last one (`Lines`, on `Digits` and `Puts`).
 -- The measure is n. Assumes nothing.
-use mathlib.Core.Path.{_≡_, refl, sym, ap, _∙_}
 use native.Mathlib.Omega.{arith}
-use borrow.Author.Needs.{needs}
 use Rattle.listing.proofs.Puts.{put-length}
 use Rattle.listing.proofs.Lines.{put-digit, put-front, put-last}
 use Prim.Native.Nat.{ℕ, _<_}
@@ -86,7 +84,8 @@ put-decimal-slice-write-out-2 : (t : ℕ) → put-decimal-lts.Need-slice-write-o
   put-decimal.Post,
 ) (put-decimal-at t) put-decimal.Post
 put-decimal-slice-write-out-2 t c =
-    let f = put-front (c .before .before .before .before .before .before .args .out .now) (c .before .before .before .before .before .before .args .at) (c .before .before .before .before .before .before .args .n) (c .before .before .before .before .before .before .fits .n .fits) (c .before .before .before .before .before .before .pre .1) (c .before .before .put-decimal .ensures .0) (c .before .before .put-decimal .ensures .1) in
+    let s = c .before .before .before .before .before .before in
+    let f = put-front (s .args .out .now) (s .args .at) (s .args .n) (s .fits .n .fits) (s .pre .1) (c .before .before .put-decimal .ensures .0) (c .before .before .put-decimal .ensures .1) in
     rw (put-length (f .0)) (f .1)
 
 put-decimal-add-result-2 : (t : ℕ) → put-decimal-lts.Need-add-result-2 (
@@ -94,24 +93,27 @@ put-decimal-add-result-2 : (t : ℕ) → put-decimal-lts.Need-add-result-2 (
   put-decimal.Post,
 ) (put-decimal-at t) put-decimal.Post
 put-decimal-add-result-2 t c =
-    let f = put-front (c .before .before .before .before .before .before .args .out .now) (c .before .before .before .before .before .before .args .at) (c .before .before .before .before .before .before .args .n) (c .before .before .before .before .before .before .fits .n .fits) (c .before .before .before .before .before .before .pre .1) (c .before .before .put-decimal .ensures .0) (c .before .before .put-decimal .ensures .1) in
-    omega (arith, f .1, c .before .before .before .before .before .before .good .0 .0)
+    let s = c .before .before .before .before .before .before in
+    let f = put-front (s .args .out .now) (s .args .at) (s .args .n) (s .fits .n .fits) (s .pre .1) (c .before .before .put-decimal .ensures .0) (c .before .before .put-decimal .ensures .1) in
+    omega (arith, f .1, s .good .0 .0)
 
 put-decimal-same-length-2 : (t : ℕ) → put-decimal-lts.Need-same-length-2 (
   put-decimal-below t,
   put-decimal.Post,
 ) (put-decimal-at t) put-decimal.Post
 put-decimal-same-length-2 t c =
-    let f = put-front (c .before .before .before .before .before .before .args .out .now) (c .before .before .before .before .before .before .args .at) (c .before .before .before .before .before .before .args .n) (c .before .before .before .before .before .before .fits .n .fits) (c .before .before .before .before .before .before .pre .1) (c .before .before .put-decimal .ensures .0) (c .before .before .put-decimal .ensures .1) in
-    put-length (put-last (c .before .before .before .before .before .before .args .n) (c .before .before .before .before .if1 .left) (c .before .before .before .before .before .before .fits .n .fits) (f .0) (f .1))
+    let s = c .before .before .before .before .before .before in
+    let f = put-front (s .args .out .now) (s .args .at) (s .args .n) (s .fits .n .fits) (s .pre .1) (c .before .before .put-decimal .ensures .0) (c .before .before .put-decimal .ensures .1) in
+    put-length (put-last (s .args .n) (c .before .before .before .before .if1 .left) (s .fits .n .fits) (f .0) (f .1))
 
 put-decimal-returns-2 : (t : ℕ) → put-decimal-lts.Need-returns-2 (
   put-decimal-below t,
   put-decimal.Post,
 ) (put-decimal-at t) put-decimal.Post
 put-decimal-returns-2 t c =
-    let f = put-front (c .before .before .before .before .before .before .args .out .now) (c .before .before .before .before .before .before .args .at) (c .before .before .before .before .before .before .args .n) (c .before .before .before .before .before .before .fits .n .fits) (c .before .before .before .before .before .before .pre .1) (c .before .before .put-decimal .ensures .0) (c .before .before .put-decimal .ensures .1) in
-    let r = put-last (c .before .before .before .before .before .before .args .n) (c .before .before .before .before .if1 .left) (c .before .before .before .before .before .before .fits .n .fits) (f .0) (f .1) in
+    let s = c .before .before .before .before .before .before in
+    let f = put-front (s .args .out .now) (s .args .at) (s .args .n) (s .fits .n .fits) (s .pre .1) (c .before .before .put-decimal .ensures .0) (c .before .before .put-decimal .ensures .1) in
+    let r = put-last (s .args .n) (c .before .before .before .before .if1 .left) (s .fits .n .fits) (f .0) (f .1) in
     (r .list, r .ends)
 
 pub +put-decimal-spec : {M : Type 1} → statement M

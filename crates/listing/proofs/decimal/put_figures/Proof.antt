@@ -1,7 +1,7 @@
 -- `listing::decimal::put_figures` meets its contract: three numbers, at most 21 bytes each with what is behind (`Lines`). Assumes nothing.
 use native.Mathlib.Omega.{arith}
 use Rattle.listing.proofs.Puts.{put-as, left-none, left-next}
-use Rattle.listing.proofs.Lines.{ended, ended-words, line-three}
+use Rattle.listing.proofs.Lines.{ended, ended-most, line-three}
 use borrow.Author.Needs.{needs}
 use Rattle.listing.proofs.decimal.put_figures.Statement.{statement}
 use Rattle.listing.proofs.decimal.put_figures.Tie as tie
@@ -11,13 +11,15 @@ put-number-requires c κs = search needs
 
 put-number-requires-2 : tie.Need-put-number-requires-2
 put-number-requires-2 c κs =
-    let l1 = left-next 21 42 (ended (c .before .before .before .before .before .before .args .a) 32) (left-none 63 (c .before .before .before .before .before .before .args .out .now) (c .before .before .before .before .before .before .args .at) (c .before .before .before .before .before .before .pre)) (ended-words (c .before .before .before .before .before .before .args .a) 32 (c .before .before .before .before .before .before .fits .a .fits)) (omega arith) (c .before .before .before .put-number .ensures .0) (c .before .before .before .put-number .ensures .1) in
+    let s = c .before .before .before .before .before .before in
+    let l1 = left-next 21 42 (ended (s .args .a) 32) (left-none 63 (s .args .out .now) (s .args .at) (s .pre)) (ended-most (s .args .a) 32) (omega arith) (c .before .before .before .put-number .ensures .0) (c .before .before .before .put-number .ensures .1) in
     omega (arith, l1 .left)
 
 put-number-requires-3 : tie.Need-put-number-requires-3
 put-number-requires-3 c κs =
-    let l1 = left-next 21 42 (ended (c .before .before .before .before .before .before .before .before .before .before .args .a) 32) (left-none 63 (c .before .before .before .before .before .before .before .before .before .before .args .out .now) (c .before .before .before .before .before .before .before .before .before .before .args .at) (c .before .before .before .before .before .before .before .before .before .before .pre)) (ended-words (c .before .before .before .before .before .before .before .before .before .before .args .a) 32 (c .before .before .before .before .before .before .before .before .before .before .fits .a .fits)) (omega arith) (c .before .before .before .before .before .before .before .put-number .ensures .0) (c .before .before .before .before .before .before .before .put-number .ensures .1) in
-    let l2 = left-next 21 21 (ended (c .before .before .before .before .before .before .before .before .before .before .args .b) 32) l1 (ended-words (c .before .before .before .before .before .before .before .before .before .before .args .b) 32 (c .before .before .before .before .before .before .before .before .before .before .fits .b .fits)) (omega arith) (c .before .before .before .put-number2 .ensures .0) (c .before .before .before .put-number2 .ensures .1) in
+    let s = c .before .before .before .before .before .before .before .before .before .before in
+    let l1 = left-next 21 42 (ended (s .args .a) 32) (left-none 63 (s .args .out .now) (s .args .at) (s .pre)) (ended-most (s .args .a) 32) (omega arith) (c .before .before .before .before .before .before .before .put-number .ensures .0) (c .before .before .before .before .before .before .before .put-number .ensures .1) in
+    let l2 = left-next 21 21 (ended (s .args .b) 32) l1 (ended-most (s .args .b) 32) (omega arith) (c .before .before .before .put-number2 .ensures .0) (c .before .before .before .put-number2 .ensures .1) in
     omega (arith, l2 .left)
 
 same-length : tie.Need-same-length
@@ -25,10 +27,11 @@ same-length c = search needs
 
 returns : tie.Need-returns
 returns c =
-    let l1 = left-next 21 42 (ended (c .before .before .before .before .before .before .before .before .before .before .before .before .before .args .a) 32) (left-none 63 (c .before .before .before .before .before .before .before .before .before .before .before .before .before .args .out .now) (c .before .before .before .before .before .before .before .before .before .before .before .before .before .args .at) (c .before .before .before .before .before .before .before .before .before .before .before .before .before .pre)) (ended-words (c .before .before .before .before .before .before .before .before .before .before .before .before .before .args .a) 32 (c .before .before .before .before .before .before .before .before .before .before .before .before .before .fits .a .fits)) (omega arith) (c .before .before .before .before .before .before .before .before .before .before .put-number .ensures .0) (c .before .before .before .before .before .before .before .before .before .before .put-number .ensures .1) in
-    let l2 = left-next 21 21 (ended (c .before .before .before .before .before .before .before .before .before .before .before .before .before .args .b) 32) l1 (ended-words (c .before .before .before .before .before .before .before .before .before .before .before .before .before .args .b) 32 (c .before .before .before .before .before .before .before .before .before .before .before .before .before .fits .b .fits)) (omega arith) (c .before .before .before .before .before .before .put-number2 .ensures .0) (c .before .before .before .before .before .before .put-number2 .ensures .1) in
-    let l3 = left-next 21 0 (ended (c .before .before .before .before .before .before .before .before .before .before .before .before .before .args .c) 10) l2 (ended-words (c .before .before .before .before .before .before .before .before .before .before .before .before .before .args .c) 10 (c .before .before .before .before .before .before .before .before .before .before .before .before .before .fits .c .fits)) (omega arith) (c .before .before .put-number3 .ensures .0) (c .before .before .put-number3 .ensures .1) in
-    let r = put-as (line-three (c .before .before .before .before .before .before .before .before .before .before .before .before .before .args .a) (c .before .before .before .before .before .before .before .before .before .before .before .before .before .args .b) (c .before .before .before .before .before .before .before .before .before .before .before .before .before .args .c)) (l3 .put) in
+    let s = c .before .before .before .before .before .before .before .before .before .before .before .before .before in
+    let l1 = left-next 21 42 (ended (s .args .a) 32) (left-none 63 (s .args .out .now) (s .args .at) (s .pre)) (ended-most (s .args .a) 32) (omega arith) (c .before .before .before .before .before .before .before .before .before .before .put-number .ensures .0) (c .before .before .before .before .before .before .before .before .before .before .put-number .ensures .1) in
+    let l2 = left-next 21 21 (ended (s .args .b) 32) l1 (ended-most (s .args .b) 32) (omega arith) (c .before .before .before .before .before .before .put-number2 .ensures .0) (c .before .before .before .before .before .before .put-number2 .ensures .1) in
+    let l3 = left-next 21 0 (ended (s .args .c) 10) l2 (ended-most (s .args .c) 10) (omega arith) (c .before .before .put-number3 .ensures .0) (c .before .before .put-number3 .ensures .1) in
+    let r = put-as (line-three (s .args .a) (s .args .b) (s .args .c)) (l3 .put) in
     (r .list, r .ends)
 
 pub put-figures-spec : {M : Type 1} → statement M

@@ -1,7 +1,7 @@
 -- `listing::decimal::put_number` meets its contract: the digits, at most 20, and the byte (`Puts`). Assumes nothing.
 use native.Mathlib.Omega.{arith}
 use Rattle.listing.specs.Decimal.{decimal}
-use Rattle.listing.proofs.Digits.{decimal-words}
+use Rattle.listing.proofs.Digits.{decimal-most}
 use Rattle.listing.proofs.Puts.{left-none, left-next, put-byte, put-length}
 use borrow.Author.Needs.{needs}
 use Rattle.listing.proofs.decimal.put_number.Statement.{statement}
@@ -12,21 +12,24 @@ put-decimal-requires c κs = search needs
 
 slice-write-out : tie.Need-slice-write-out
 slice-write-out c =
-    let l = left-next 20 1 (decimal (c .before .before .before .before .before .args .n)) (left-none 21 (c .before .before .before .before .before .args .out .now) (c .before .before .before .before .before .args .at) (c .before .before .before .before .before .pre)) (decimal-words (c .before .before .before .before .before .args .n) (c .before .before .before .before .before .fits .n .fits)) (omega arith) (c .before .before .put-decimal .ensures .0) (c .before .before .put-decimal .ensures .1) in
+    let s = c .before .before .before .before .before in
+    let l = left-next 20 1 (decimal (s .args .n)) (left-none 21 (s .args .out .now) (s .args .at) (s .pre)) (decimal-most (s .args .n)) (omega arith) (c .before .before .put-decimal .ensures .0) (c .before .before .put-decimal .ensures .1) in
     omega (arith, l .left)
 
 add-result : tie.Need-add-result
 add-result c =
-    let l = left-next 20 1 (decimal (c .before .before .before .before .before .args .n)) (left-none 21 (c .before .before .before .before .before .args .out .now) (c .before .before .before .before .before .args .at) (c .before .before .before .before .before .pre)) (decimal-words (c .before .before .before .before .before .args .n) (c .before .before .before .before .before .fits .n .fits)) (omega arith) (c .before .before .put-decimal .ensures .0) (c .before .before .put-decimal .ensures .1) in
-    omega (arith, l .left, put-length (l .put), c .before .before .before .before .before .good .0 .0)
+    let s = c .before .before .before .before .before in
+    let l = left-next 20 1 (decimal (s .args .n)) (left-none 21 (s .args .out .now) (s .args .at) (s .pre)) (decimal-most (s .args .n)) (omega arith) (c .before .before .put-decimal .ensures .0) (c .before .before .put-decimal .ensures .1) in
+    omega (arith, l .left, put-length (l .put), s .good .0 .0)
 
 same-length : tie.Need-same-length
 same-length c = search needs
 
 returns : tie.Need-returns
 returns c =
-    let l = left-next 20 1 (decimal (c .before .before .before .before .before .args .n)) (left-none 21 (c .before .before .before .before .before .args .out .now) (c .before .before .before .before .before .args .at) (c .before .before .before .before .before .pre)) (decimal-words (c .before .before .before .before .before .args .n) (c .before .before .before .before .before .fits .n .fits)) (omega arith) (c .before .before .put-decimal .ensures .0) (c .before .before .put-decimal .ensures .1) in
-    let r = put-byte (c .before .before .before .before .before .args .byte) (l .put) (omega (arith, l .left, put-length (l .put))) in
+    let s = c .before .before .before .before .before in
+    let l = left-next 20 1 (decimal (s .args .n)) (left-none 21 (s .args .out .now) (s .args .at) (s .pre)) (decimal-most (s .args .n)) (omega arith) (c .before .before .put-decimal .ensures .0) (c .before .before .put-decimal .ensures .1) in
+    let r = put-byte (s .args .byte) (l .put) (omega (arith, l .left, put-length (l .put))) in
     (r .list, r .ends)
 
 pub put-number-spec : {M : Type 1} → statement M

@@ -1,10 +1,9 @@
 -- `listing::norm::links_norm` meets its contract: after k links `top` is the largest so far, and link k's weights begin at `begin`.
 -- Assumes nothing.
-use mathlib.Core.Path.{_≡_, refl, sym, ap, _∙_}
-use Prim.Native.Nat.{ℕ, _+_, _-_, _≤_, _<_}
+use mathlib.Core.Path.{_≡_, sym, ap, _∙_}
+use Prim.Native.Nat.{ℕ, _+_, _-_, _≤_}
 use native.Mathlib.Nat.{le-antisymm}
 use native.Mathlib.Omega.{arith}
-use lib.ListN.{length}
 use Rattle.lists.proofs.Sums.{sum-zero, sum-next}
 use Rattle.lists.proofs.Parts.{cut-length}
 use Rattle.plan.specs.Parts.{linkStart}
@@ -27,7 +26,9 @@ add-end : tie.Need-add-end Inv-loop μ-loop
 add-end c = omega arith
 
 add-end-2 : tie.Need-add-end-2 Inv-loop μ-loop
-add-end-2 c = omega (arith, link-room (c .before .before .before .before .args .plan) (c .before .before .before .before .args .weights .now) (c .before .before .loop .begin) (c .before .before .loop .k) (c .before .before .before .before .pre .1) (c .before .before .loop .inv .1) (c .if1 .taken))
+add-end-2 c =
+    let s = c .before .before .before .before in
+    omega (arith, link-room (s .args .plan) (s .args .weights .now) (c .before .before .loop .begin) (c .before .before .loop .k) (s .pre .1) (c .before .before .loop .inv .1) (c .if1 .taken))
 
 sub-squares : tie.Need-sub-squares Inv-loop μ-loop
 sub-squares c = omega arith
@@ -36,12 +37,15 @@ part-squares-start : tie.Need-part-squares-start Inv-loop μ-loop
 part-squares-start c = omega arith
 
 part-squares-end : tie.Need-part-squares-end Inv-loop μ-loop
-part-squares-end c = link-room (c .before .before .before .before .args .plan) (c .before .before .before .before .args .weights .now) (c .before .before .loop .begin) (c .before .before .loop .k) (c .before .before .before .before .pre .1) (c .before .before .loop .inv .1) (c .if1 .taken)
+part-squares-end c =
+    let s = c .before .before .before .before in
+    link-room (s .args .plan) (s .args .weights .now) (c .before .before .loop .begin) (c .before .before .loop .k) (s .pre .1) (c .before .before .loop .inv .1) (c .if1 .taken)
 
 squares-requires : tie.Need-squares-requires Inv-loop μ-loop
 squares-requires c κs =
-    let e = cut-length (c .before .before .before .before .before .args .weights .now) (c .before .before .before .loop .begin) (c .before .before .before .before .before .args .plan .n + c .before .before .before .loop .k) (link-room (c .before .before .before .before .before .args .plan) (c .before .before .before .before .before .args .weights .now) (c .before .before .before .loop .begin) (c .before .before .before .loop .k) (c .before .before .before .before .before .pre .1) (c .before .before .before .loop .inv .1) (c .before .if1 .taken)) in
-    omega (arith, e, c .before .before .before .before .before .pre .0 .variable-limit, c .before .if1 .taken)
+    let s = c .before .before .before .before .before in
+    let e = cut-length (s .args .weights .now) (c .before .before .before .loop .begin) (s .args .plan .n + c .before .before .before .loop .k) (link-room (s .args .plan) (s .args .weights .now) (c .before .before .before .loop .begin) (c .before .before .before .loop .k) (s .pre .1) (c .before .before .before .loop .inv .1) (c .before .if1 .taken)) in
+    omega (arith, e, s .pre .0 .variable-limit, c .before .if1 .taken)
 
 larger-requires : tie.Need-larger-requires Inv-loop μ-loop
 larger-requires c κs = tt
@@ -54,14 +58,17 @@ loop-less c = omega arith
 
 loop-again : tie.Need-loop-again Inv-loop μ-loop
 loop-again c =
-    let room = link-room (c .before .before .before .before .before .before .before .args .plan) (c .before .before .before .before .before .before .before .args .weights .now) (c .before .before .before .before .before .loop .begin) (c .before .before .before .before .before .loop .k) (c .before .before .before .before .before .before .before .pre .1) (c .before .before .before .before .before .loop .inv .1) (c .before .before .before .if1 .taken) in (
+    let s = c .before .before .before .before .before .before .before in
+    let room = link-room (s .args .plan) (s .args .weights .now) (c .before .before .before .before .before .loop .begin) (c .before .before .before .before .before .loop .k) (s .pre .1) (c .before .before .before .before .before .loop .inv .1) (c .before .before .before .if1 .taken) in (
       omega arith,
-      ap (λ (a : ℕ). a + (c .before .before .before .before .before .before .before .args .plan .n + c .before .before .before .before .before .loop .k)) (c .before .before .before .before .before .loop .inv .1) ∙ sym (sum-next (λ i. c .before .before .before .before .before .before .before .args .plan .n + i) (c .before .before .before .before .before .loop .k)),
-      largest-turn _ _ _ _ _ (c .before .before .before .before .before .loop .inv .2) (c .before .squares .ensures ∙ part-squares (c .before .before .before .before .before .before .before .args .weights .now) (c .before .before .before .before .before .loop .begin) (c .before .before .before .before .before .before .before .args .plan .n + c .before .before .before .before .before .loop .k) room ∙ ap (λ (a : ℕ). specs.squares (c .before .before .before .before .before .before .before .args .weights .now) a (c .before .before .before .before .before .before .before .args .plan .n + c .before .before .before .before .before .loop .k)) (c .before .before .before .before .before .loop .inv .1)) (c .larger .ensures),
+      ap (λ (a : ℕ). a + (s .args .plan .n + c .before .before .before .before .before .loop .k)) (c .before .before .before .before .before .loop .inv .1) ∙ sym (sum-next (λ i. s .args .plan .n + i) (c .before .before .before .before .before .loop .k)),
+      largest-turn _ _ _ _ _ (c .before .before .before .before .before .loop .inv .2) (c .before .squares .ensures ∙ part-squares (s .args .weights .now) (c .before .before .before .before .before .loop .begin) (s .args .plan .n + c .before .before .before .before .before .loop .k) room ∙ ap (λ (a : ℕ). specs.squares (s .args .weights .now) a (s .args .plan .n + c .before .before .before .before .before .loop .k)) (c .before .before .before .before .before .loop .inv .1)) (c .larger .ensures),
     )
 
 returns : tie.Need-returns Inv-loop μ-loop
-returns c = c .before .before .loop .inv .2 ∙ ap (specs.largest (λ i. specs.squares (c .before .before .before .before .args .weights .now) (linkStart (c .before .before .before .before .args .plan) i) (c .before .before .before .before .args .plan .n + i))) (le-antisymm (c .before .before .loop .inv .0) (c .if1 .left))
+returns c =
+    let s = c .before .before .before .before in
+    c .before .before .loop .inv .2 ∙ ap (specs.largest (λ i. specs.squares (s .args .weights .now) (linkStart (s .args .plan) i) (s .args .plan .n + i))) (le-antisymm (c .before .before .loop .inv .0) (c .if1 .left))
 
 pub links-norm-spec : {M : Type 1} → statement M
 links-norm-spec =

@@ -1,7 +1,7 @@
 -- `listing::norm::rows_norm` meets its contract: after b rows `top` is the largest so far, and row b begins at `begin`.
 -- Assumes nothing.
-use mathlib.Core.Path.{_≡_, refl, sym, ap, _∙_}
-use Prim.Native.Nat.{ℕ, _+_, _-_, _*_, _≤_, _<_}
+use mathlib.Core.Path.{_≡_, ap, _∙_}
+use Prim.Native.Nat.{ℕ, _-_, _*_, _≤_}
 use native.Mathlib.Nat.{le-antisymm}
 use native.Mathlib.Omega.{arith}
 use lib.ListN.{length}
@@ -21,7 +21,9 @@ loop-holds : tie.Need-loop-holds Inv-loop μ-loop
 loop-holds c = (omega arith, omega arith, largest-none _)
 
 add-end : tie.Need-add-end Inv-loop μ-loop
-add-end c = omega (arith, row-room (c .before .loop .begin) (c .before .loop .b) (c .before .before .before .args .l) (c .before .before .before .args .count) (length (c .before .before .before .args .ws .now)) (c .before .loop .inv .1) (c .loop-test .taken) (c .before .before .before .pre .1))
+add-end c =
+    let s = c .before .before .before in
+    omega (arith, row-room (c .before .loop .begin) (c .before .loop .b) (s .args .l) (s .args .count) (length (s .args .ws .now)) (c .before .loop .inv .1) (c .loop-test .taken) (s .pre .1))
 
 sub-squares : tie.Need-sub-squares Inv-loop μ-loop
 sub-squares c = omega arith
@@ -30,12 +32,15 @@ part-squares-start : tie.Need-part-squares-start Inv-loop μ-loop
 part-squares-start c = omega arith
 
 part-squares-end : tie.Need-part-squares-end Inv-loop μ-loop
-part-squares-end c = row-room (c .before .loop .begin) (c .before .loop .b) (c .before .before .before .args .l) (c .before .before .before .args .count) (length (c .before .before .before .args .ws .now)) (c .before .loop .inv .1) (c .loop-test .taken) (c .before .before .before .pre .1)
+part-squares-end c =
+    let s = c .before .before .before in
+    row-room (c .before .loop .begin) (c .before .loop .b) (s .args .l) (s .args .count) (length (s .args .ws .now)) (c .before .loop .inv .1) (c .loop-test .taken) (s .pre .1)
 
 squares-requires : tie.Need-squares-requires Inv-loop μ-loop
 squares-requires c κs =
-    let e = cut-length (c .before .before .before .before .args .ws .now) (c .before .before .loop .begin) (c .before .before .before .before .args .l) (row-room (c .before .before .loop .begin) (c .before .before .loop .b) (c .before .before .before .before .args .l) (c .before .before .before .before .args .count) (length (c .before .before .before .before .args .ws .now)) (c .before .before .loop .inv .1) (c .before .loop-test .taken) (c .before .before .before .before .pre .1)) in
-    omega (arith, e, c .before .before .before .before .pre .0)
+    let s = c .before .before .before .before in
+    let e = cut-length (s .args .ws .now) (c .before .before .loop .begin) (s .args .l) (row-room (c .before .before .loop .begin) (c .before .before .loop .b) (s .args .l) (s .args .count) (length (s .args .ws .now)) (c .before .before .loop .inv .1) (c .before .loop-test .taken) (s .pre .1)) in
+    omega (arith, e, s .pre .0)
 
 larger-requires : tie.Need-larger-requires Inv-loop μ-loop
 larger-requires c κs = tt
@@ -48,14 +53,17 @@ loop-less c = omega arith
 
 loop-again : tie.Need-loop-again Inv-loop μ-loop
 loop-again c =
-    let room = row-room (c .before .before .before .before .loop .begin) (c .before .before .before .before .loop .b) (c .before .before .before .before .before .before .args .l) (c .before .before .before .before .before .before .args .count) (length (c .before .before .before .before .before .before .args .ws .now)) (c .before .before .before .before .loop .inv .1) (c .before .before .before .loop-test .taken) (c .before .before .before .before .before .before .pre .1) in (
+    let s = c .before .before .before .before .before .before in
+    let room = row-room (c .before .before .before .before .loop .begin) (c .before .before .before .before .loop .b) (s .args .l) (s .args .count) (length (s .args .ws .now)) (c .before .before .before .before .loop .inv .1) (c .before .before .before .loop-test .taken) (s .pre .1) in (
       omega arith,
       omega (arith, c .before .before .before .before .loop .inv .1),
-      largest-turn _ _ _ _ _ (c .before .before .before .before .loop .inv .2) (c .before .squares .ensures ∙ part-squares (c .before .before .before .before .before .before .args .ws .now) (c .before .before .before .before .loop .begin) (c .before .before .before .before .before .before .args .l) room ∙ ap (λ (a : ℕ). specs.squares (c .before .before .before .before .before .before .args .ws .now) a (c .before .before .before .before .before .before .args .l)) (c .before .before .before .before .loop .inv .1)) (c .larger .ensures),
+      largest-turn _ _ _ _ _ (c .before .before .before .before .loop .inv .2) (c .before .squares .ensures ∙ part-squares (s .args .ws .now) (c .before .before .before .before .loop .begin) (s .args .l) room ∙ ap (λ (a : ℕ). specs.squares (s .args .ws .now) a (s .args .l)) (c .before .before .before .before .loop .inv .1)) (c .larger .ensures),
     )
 
 returns : tie.Need-returns Inv-loop μ-loop
-returns c = c .before .loop .inv .2 ∙ ap (specs.largest (λ i. specs.squares (c .before .before .before .args .ws .now) (i * c .before .before .before .args .l) (c .before .before .before .args .l))) (le-antisymm (c .before .loop .inv .0) (c .loop-test .left))
+returns c =
+    let s = c .before .before .before in
+    c .before .loop .inv .2 ∙ ap (specs.largest (λ i. specs.squares (s .args .ws .now) (i * s .args .l) (s .args .l))) (le-antisymm (c .before .loop .inv .0) (c .loop-test .left))
 
 pub rows-norm-spec : {M : Type 1} → statement M
 rows-norm-spec =

@@ -29,7 +29,9 @@ larger-requires-2 : tie.Need-larger-requires-2
 larger-requires-2 c κs = search needs
 
 returns : tie.Need-returns
-returns c = norm-of (c .before .before .before .before .before .before .before .before .before .before .args .plan) (c .before .before .before .before .before .before .before .before .before .before .args .weights .now) (c .before .before .before .before .before .before .before .before .before .before .args .d .now) (c .before .before .before .before .before .before .before .before .before .before .args .beta .now) (c .before .before .before .before .before .before .variables .ensures) (c .before .before .before .before .before .links-norm .ensures) (c .before .before .before .before .rows-norm .ensures) (c .before .before .rows-norm2 .ensures) (c .before .larger .ensures) (c .larger2 .ensures)
+returns c =
+    let s = c .before .before .before .before .before .before .before .before .before .before in
+    norm-of (s .args .plan) (s .args .weights .now) (s .args .d .now) (s .args .beta .now) (c .before .before .before .before .before .before .variables .ensures) (c .before .before .before .before .before .links-norm .ensures) (c .before .before .before .before .rows-norm .ensures) (c .before .before .rows-norm2 .ensures) (c .before .larger .ensures) (c .larger2 .ensures)
 
 pub worst-spec : {M : Type 1} → statement M
 worst-spec =

@@ -42,13 +42,17 @@ part-refusal-requires : tie.Need-part-refusal-requires
 part-refusal-requires c κs = call-within _ _ _ _ _ (accepted (c .before .before))
 
 returns : tie.Need-returns
-returns c = norm-parts (c .before .before .before .before .before .before .before .before .before .before .before .args .p) (c .before .before .before .before .before .before .before .before .before .before .before .args .s) (c .before .before .before .before .before .before .before .before .before .before .before .args .n) (c .before .before .before .before .before .before .before .before .before .before .before .args .m) (c .before .before .before .before .before .before .before .before .before .before .before .args .t) (c .before .before .before .before .before .before .before .before .before .before .before .args .weights .now) (c .before .before .before .before .before .before .before .before .before .before .before .args .tables .now) (c .before .before .before .before .before .before .before .before .before .before .before .args .d .now) (c .before .before .before .before .before .before .before .before .before .before .before .args .beta .now) (c .before .before .before .before .plan .given .0 .0) (accepted (c .before .before .before .before)) (c .before .part-refusal .result) (parts (c .before)) (c .if1 .taken)
+returns c =
+    let s = c .before .before .before .before .before .before .before .before .before .before .before in
+    norm-parts (s .args .p) (s .args .s) (s .args .n) (s .args .m) (s .args .t) (s .args .weights .now) (s .args .tables .now) (s .args .d .now) (s .args .beta .now) (c .before .before .before .before .plan .given .0 .0) (accepted (c .before .before .before .before)) (c .before .part-refusal .result) (parts (c .before)) (c .if1 .taken)
 
 all-below-requires : tie.Need-all-below-requires
 all-below-requires c κs = omega (arith, prime-low (call-within _ _ _ _ _ (accepted (c .before .before .before .before))))
 
 returns-2 : tie.Need-returns-2
-returns-2 c = norm-values (c .before .before .before .before .before .before .before .before .before .before .before .before .before .args .p) (c .before .before .before .before .before .before .before .before .before .before .before .before .before .args .s) (c .before .before .before .before .before .before .before .before .before .before .before .before .before .args .n) (c .before .before .before .before .before .before .before .before .before .before .before .before .before .args .m) (c .before .before .before .before .before .before .before .before .before .before .before .before .before .args .t) (c .before .before .before .before .before .before .before .before .before .before .before .before .before .args .weights .now) (c .before .before .before .before .before .before .before .before .before .before .before .before .before .args .tables .now) (c .before .before .before .before .before .before .before .before .before .before .before .before .before .args .d .now) (c .before .before .before .before .before .before .before .before .before .before .before .before .before .args .beta .now) (c .before .before .before .before .before .before .plan .given .0 .0) (accepted (c .before .before .before .before .before .before)) (sym (c .before .before .if1 .left) ∙ parts (c .before .before .before)) (sym (c .before .all-below .ensures) ∙ not-true _ (c .if2 .taken))
+returns-2 c =
+    let s = c .before .before .before .before .before .before .before .before .before .before .before .before .before in
+    norm-values (s .args .p) (s .args .s) (s .args .n) (s .args .m) (s .args .t) (s .args .weights .now) (s .args .tables .now) (s .args .d .now) (s .args .beta .now) (c .before .before .before .before .before .before .plan .given .0 .0) (accepted (c .before .before .before .before .before .before)) (sym (c .before .before .if1 .left) ∙ parts (c .before .before .before)) (sym (c .before .all-below .ensures) ∙ not-true _ (c .if2 .taken))
 
 worst-requires : tie.Need-worst-requires
 worst-requires c κs =
@@ -57,10 +61,14 @@ worst-requires c κs =
     (within, (lent .0 .weights-length, (lent .0 .products-length, eqb-true _ _ (lent .1))))
 
 returns-3 : tie.Need-returns-3
-returns-3 c = norm-numbers (c .before .before .before .before .before .before .before .before .args .p) (c .before .before .before .before .before .before .before .before .args .s) (c .before .before .before .before .before .before .before .before .args .n) (c .before .before .before .before .before .before .before .before .args .m) (c .before .before .before .before .before .before .before .before .args .t) (c .before .before .before .before .before .before .before .before .args .weights .now) (c .before .before .before .before .before .before .before .before .args .tables .now) (c .before .before .before .before .before .before .before .before .args .d .now) (c .before .before .before .before .before .before .before .before .args .beta .now) (c .before .k .given .0 .0) (refused (c .before))
+returns-3 c =
+    let s = c .before .before .before .before .before .before .before .before in
+    norm-numbers (s .args .p) (s .args .s) (s .args .n) (s .args .m) (s .args .t) (s .args .weights .now) (s .args .tables .now) (s .args .d .now) (s .args .beta .now) (c .before .k .given .0 .0) (refused (c .before))
 
 returns-4 : tie.Need-returns-4
-returns-4 c = norm-answer (c .before .before .before .before .before .before .before .before .before .before .before .before .before .before .args .p) (c .before .before .before .before .before .before .before .before .before .before .before .before .before .before .args .s) (c .before .before .before .before .before .before .before .before .before .before .before .before .before .before .args .n) (c .before .before .before .before .before .before .before .before .before .before .before .before .before .before .args .m) (c .before .before .before .before .before .before .before .before .before .before .before .before .before .before .args .t) (c .before .before .before .before .before .before .before .before .before .before .before .before .before .before .args .weights .now) (c .before .before .before .before .before .before .before .before .before .before .before .before .before .before .args .tables .now) (c .before .before .before .before .before .before .before .before .before .before .before .before .before .before .args .d .now) (c .before .before .before .before .before .before .before .before .before .before .before .before .before .before .args .beta .now) (c .before .before .before .before .before .before .before .plan .given .0 .0) (accepted (c .before .before .before .before .before .before .before)) (sym (c .before .before .before .if1 .left) ∙ parts (c .before .before .before .before)) (c .worst .result) (sym (c .before .before .all-below .ensures) ∙ not-false _ (c .before .if2 .left)) (c .worst .ensures)
+returns-4 c =
+    let s = c .before .before .before .before .before .before .before .before .before .before .before .before .before .before in
+    norm-answer (s .args .p) (s .args .s) (s .args .n) (s .args .m) (s .args .t) (s .args .weights .now) (s .args .tables .now) (s .args .d .now) (s .args .beta .now) (c .before .before .before .before .before .before .before .plan .given .0 .0) (accepted (c .before .before .before .before .before .before .before)) (sym (c .before .before .before .if1 .left) ∙ parts (c .before .before .before .before)) (c .worst .result) (sym (c .before .before .all-below .ensures) ∙ not-false _ (c .before .if2 .left)) (c .worst .ensures)
 
 pub worst-norm-spec : {M : Type 1} → statement M
 worst-norm-spec =

@@ -8,7 +8,7 @@ use Rattle.lists.specs.Places.{joined}
 use Rattle.listing.specs.Decimal.{line}
 use Rattle.listing.specs.Printed.{figureNames, stepNames, stepLine}
 use Rattle.listing.proofs.Puts.{put-as, left-none, left-next}
-use Rattle.listing.proofs.Lines.{words-three, lines-room}
+use Rattle.listing.proofs.Lines.{three-most, lines-room}
 use Rattle.listing.proofs.Rooms.{few-steps, small-steps, step-count, listing-as}
 use borrow.Author.Needs.{needs}
 use Rattle.listing.proofs.printing.print_listing.Statement.{statement}
@@ -37,18 +37,19 @@ slice-aggregate-put-bytes-2 c = search needs
 
 put-bytes-requires-2 : tie.Need-put-bytes-requires-2
 put-bytes-requires-2 c κs =
-    let few : length (c .before .before .before .before .before .before .before .before .before .before .before .before .before .before .before .before .before .before .before .args .steps .now) / 4 ≤ 5000 = rw (step-count (c .before .before .before .before .before .before .before .before .before .before .before .before .before .before .before .before .before .before .before .args .plan) (c .before .before .before .before .before .before .before .before .before .before .before .before .before .before .before .before .before .before .before .args .weights .now) (c .before .before .before .before .before .before .before .before .before .before .before .before .before .before .before .before .before .before .before .args .d .now) (c .before .before .before .before .before .before .before .before .before .before .before .before .before .before .before .before .before .before .before .args .beta .now) (c .before .before .before .before .before .before .before .before .before .before .before .before .before .before .before .before .before .before .before .args .steps .now) (c .before .before .before .before .before .before .before .before .before .before .before .before .before .before .before .before .before .before .before .pre .1 .1 .1 .1 .0)) (few-steps (c .before .before .before .before .before .before .before .before .before .before .before .before .before .before .before .before .before .before .before .args .plan) (c .before .before .before .before .before .before .before .before .before .before .before .before .before .before .before .before .before .before .before .pre .0)) in
-    let l1 = left-next 23 131049 figureNames (left-none 131072 (c .before .before .before .before .before .before .before .before .before .before .before .before .before .before .before .before .before .before .before .args .out .now) 0 (c .before .before .before .before .before .before .before .before .before .before .before .before .before .before .before .before .before .before .before .pre .1 .1 .1 .1 .1)) (omega arith) (omega arith) (c .before .before .before .before .before .before .before .before .put-bytes .ensures .0) (c .before .before .before .before .before .before .before .before .put-bytes .ensures .1) in
-    let l2 = left-next 63 130986 (line ((c .before .before .before .before .before .before .before .before .before .before .before .before .before .before .before .before .before .before .before .args .plan .m + 2 * c .before .before .before .before .before .before .before .before .before .before .before .before .before .before .before .before .before .before .before .args .plan .t) ∷ (length (c .before .before .before .before .before .before .before .before .before .before .before .before .before .before .before .before .before .before .before .args .steps .now) / 4) ∷ c .before .before .before .before .before .before .before .before .before .before .before .worst .result ∷ [])) l1 (words-three _ _ _ (omega (arith, c .before .before .before .before .before .before .before .before .before .before .before .before .before .before .before .before .before .before .before .pre .0 .variable-limit, c .before .before .before .before .before .before .before .before .before .before .before .before .before .before .before .before .before .before .before .pre .0 .product-limit)) (omega (arith, few)) (c .before .before .before .before .before .before .before .before .before .before .before .worst .ok)) (omega arith) (c .before .before .before .before .put-figures .ensures .0) (c .before .before .before .before .put-figures .ensures .1) in
+    let s = c .before .before .before .before .before .before .before .before .before .before .before .before .before .before .before .before .before .before .before in
+    let l1 = left-next 23 131049 figureNames (left-none 131072 (s .args .out .now) 0 (s .pre .1 .1 .1 .1 .1)) (omega arith) (omega arith) (c .before .before .before .before .before .before .before .before .put-bytes .ensures .0) (c .before .before .before .before .before .before .before .before .put-bytes .ensures .1) in
+    let l2 = left-next 63 130986 (line ((s .args .plan .m + 2 * s .args .plan .t) ∷ (length (s .args .steps .now) / 4) ∷ c .before .before .before .before .before .before .before .before .before .before .before .worst .result ∷ [])) l1 (three-most _ _ _) (omega arith) (c .before .before .before .before .put-figures .ensures .0) (c .before .before .before .before .put-figures .ensures .1) in
     omega (arith, l2 .left)
 
 put-steps-requires : tie.Need-put-steps-requires
 put-steps-requires c κs =
-    let few : length (c .before .before .before .before .before .before .before .before .before .before .before .before .before .before .before .before .before .before .before .before .before .before .before .args .steps .now) / 4 ≤ 5000 = rw (step-count (c .before .before .before .before .before .before .before .before .before .before .before .before .before .before .before .before .before .before .before .before .before .before .before .args .plan) (c .before .before .before .before .before .before .before .before .before .before .before .before .before .before .before .before .before .before .before .before .before .before .before .args .weights .now) (c .before .before .before .before .before .before .before .before .before .before .before .before .before .before .before .before .before .before .before .before .before .before .before .args .d .now) (c .before .before .before .before .before .before .before .before .before .before .before .before .before .before .before .before .before .before .before .before .before .before .before .args .beta .now) (c .before .before .before .before .before .before .before .before .before .before .before .before .before .before .before .before .before .before .before .before .before .before .before .args .steps .now) (c .before .before .before .before .before .before .before .before .before .before .before .before .before .before .before .before .before .before .before .before .before .before .before .pre .1 .1 .1 .1 .0)) (few-steps (c .before .before .before .before .before .before .before .before .before .before .before .before .before .before .before .before .before .before .before .before .before .before .before .args .plan) (c .before .before .before .before .before .before .before .before .before .before .before .before .before .before .before .before .before .before .before .before .before .before .before .pre .0)) in
-    let l1 = left-next 23 131049 figureNames (left-none 131072 (c .before .before .before .before .before .before .before .before .before .before .before .before .before .before .before .before .before .before .before .before .before .before .before .args .out .now) 0 (c .before .before .before .before .before .before .before .before .before .before .before .before .before .before .before .before .before .before .before .before .before .before .before .pre .1 .1 .1 .1 .1)) (omega arith) (omega arith) (c .before .before .before .before .before .before .before .before .before .before .before .before .put-bytes .ensures .0) (c .before .before .before .before .before .before .before .before .before .before .before .before .put-bytes .ensures .1) in
-    let l2 = left-next 63 130986 (line ((c .before .before .before .before .before .before .before .before .before .before .before .before .before .before .before .before .before .before .before .before .before .before .before .args .plan .m + 2 * c .before .before .before .before .before .before .before .before .before .before .before .before .before .before .before .before .before .before .before .before .before .before .before .args .plan .t) ∷ (length (c .before .before .before .before .before .before .before .before .before .before .before .before .before .before .before .before .before .before .before .before .before .before .before .args .steps .now) / 4) ∷ c .before .before .before .before .before .before .before .before .before .before .before .before .before .before .before .worst .result ∷ [])) l1 (words-three _ _ _ (omega (arith, c .before .before .before .before .before .before .before .before .before .before .before .before .before .before .before .before .before .before .before .before .before .before .before .pre .0 .variable-limit, c .before .before .before .before .before .before .before .before .before .before .before .before .before .before .before .before .before .before .before .before .before .before .before .pre .0 .product-limit)) (omega (arith, few)) (c .before .before .before .before .before .before .before .before .before .before .before .before .before .before .before .worst .ok)) (omega arith) (c .before .before .before .before .before .before .before .before .put-figures .ensures .0) (c .before .before .before .before .before .before .before .before .put-figures .ensures .1) in
+    let s = c .before .before .before .before .before .before .before .before .before .before .before .before .before .before .before .before .before .before .before .before .before .before .before in
+    let few : length (s .args .steps .now) / 4 ≤ 5000 = rw (step-count (s .args .plan) (s .args .weights .now) (s .args .d .now) (s .args .beta .now) (s .args .steps .now) (s .pre .1 .1 .1 .1 .0)) (few-steps (s .args .plan) (s .pre .0)) in
+    let l1 = left-next 23 131049 figureNames (left-none 131072 (s .args .out .now) 0 (s .pre .1 .1 .1 .1 .1)) (omega arith) (omega arith) (c .before .before .before .before .before .before .before .before .before .before .before .before .put-bytes .ensures .0) (c .before .before .before .before .before .before .before .before .before .before .before .before .put-bytes .ensures .1) in
+    let l2 = left-next 63 130986 (line ((s .args .plan .m + 2 * s .args .plan .t) ∷ (length (s .args .steps .now) / 4) ∷ c .before .before .before .before .before .before .before .before .before .before .before .before .before .before .before .worst .result ∷ [])) l1 (three-most _ _ _) (omega arith) (c .before .before .before .before .before .before .before .before .put-figures .ensures .0) (c .before .before .before .before .before .before .before .before .put-figures .ensures .1) in
     let l3 = left-next 16 130970 stepNames l2 (omega arith) (omega arith) (c .before .before .before .put-bytes2 .ensures .0) (c .before .before .before .put-bytes2 .ensures .1) in
-    let small = small-steps (c .before .before .before .before .before .before .before .before .before .before .before .before .before .before .before .before .before .before .before .before .before .before .before .args .plan) (c .before .before .before .before .before .before .before .before .before .before .before .before .before .before .before .before .before .before .before .before .before .before .before .args .weights .now) (c .before .before .before .before .before .before .before .before .before .before .before .before .before .before .before .before .before .before .before .before .before .before .before .args .d .now) (c .before .before .before .before .before .before .before .before .before .before .before .before .before .before .before .before .before .before .before .before .before .before .before .args .beta .now) (c .before .before .before .before .before .before .before .before .before .before .before .before .before .before .before .before .before .before .before .before .before .before .before .args .steps .now) (c .before .before .before .before .before .before .before .before .before .before .before .before .before .before .before .before .before .before .before .before .before .before .before .pre .0) (c .before .before .before .before .before .before .before .before .before .before .before .before .before .before .before .before .before .before .before .before .before .before .before .pre .1 .0 .0) (c .before .before .before .before .before .before .before .before .before .before .before .before .before .before .before .before .before .before .before .before .before .before .before .pre .1 .0 .1) (c .before .before .before .before .before .before .before .before .before .before .before .before .before .before .before .before .before .before .before .before .before .before .before .pre .1 .1 .0 .0) (c .before .before .before .before .before .before .before .before .before .before .before .before .before .before .before .before .before .before .before .before .before .before .before .pre .1 .1 .0 .1) (c .before .before .before .before .before .before .before .before .before .before .before .before .before .before .before .before .before .before .before .before .before .before .before .pre .1 .1 .1 .0 .1) (c .before .before .before .before .before .before .before .before .before .before .before .before .before .before .before .before .before .before .before .before .before .before .before .pre .1 .1 .1 .1 .0) in
+    let small = small-steps (s .args .plan) (s .args .weights .now) (s .args .d .now) (s .args .beta .now) (s .args .steps .now) (s .pre .0) (s .pre .1 .0 .0) (s .pre .1 .0 .1) (s .pre .1 .1 .0 .0) (s .pre .1 .1 .0 .1) (s .pre .1 .1 .1 .0 .1) (s .pre .1 .1 .1 .1 .0) in
     (small, omega (arith, l3 .left, few))
 
 same-length : tie.Need-same-length
@@ -56,13 +57,14 @@ same-length c = search needs
 
 returns : tie.Need-returns
 returns c =
-    let few : length (c .before .before .before .before .before .before .before .before .before .before .before .before .before .before .before .before .before .before .before .before .before .before .before .before .before .before .args .steps .now) / 4 ≤ 5000 = rw (step-count (c .before .before .before .before .before .before .before .before .before .before .before .before .before .before .before .before .before .before .before .before .before .before .before .before .before .before .args .plan) (c .before .before .before .before .before .before .before .before .before .before .before .before .before .before .before .before .before .before .before .before .before .before .before .before .before .before .args .weights .now) (c .before .before .before .before .before .before .before .before .before .before .before .before .before .before .before .before .before .before .before .before .before .before .before .before .before .before .args .d .now) (c .before .before .before .before .before .before .before .before .before .before .before .before .before .before .before .before .before .before .before .before .before .before .before .before .before .before .args .beta .now) (c .before .before .before .before .before .before .before .before .before .before .before .before .before .before .before .before .before .before .before .before .before .before .before .before .before .before .args .steps .now) (c .before .before .before .before .before .before .before .before .before .before .before .before .before .before .before .before .before .before .before .before .before .before .before .before .before .before .pre .1 .1 .1 .1 .0)) (few-steps (c .before .before .before .before .before .before .before .before .before .before .before .before .before .before .before .before .before .before .before .before .before .before .before .before .before .before .args .plan) (c .before .before .before .before .before .before .before .before .before .before .before .before .before .before .before .before .before .before .before .before .before .before .before .before .before .before .pre .0)) in
-    let l1 = left-next 23 131049 figureNames (left-none 131072 (c .before .before .before .before .before .before .before .before .before .before .before .before .before .before .before .before .before .before .before .before .before .before .before .before .before .before .args .out .now) 0 (c .before .before .before .before .before .before .before .before .before .before .before .before .before .before .before .before .before .before .before .before .before .before .before .before .before .before .pre .1 .1 .1 .1 .1)) (omega arith) (omega arith) (c .before .before .before .before .before .before .before .before .before .before .before .before .before .before .before .put-bytes .ensures .0) (c .before .before .before .before .before .before .before .before .before .before .before .before .before .before .before .put-bytes .ensures .1) in
-    let l2 = left-next 63 130986 (line ((c .before .before .before .before .before .before .before .before .before .before .before .before .before .before .before .before .before .before .before .before .before .before .before .before .before .before .args .plan .m + 2 * c .before .before .before .before .before .before .before .before .before .before .before .before .before .before .before .before .before .before .before .before .before .before .before .before .before .before .args .plan .t) ∷ (length (c .before .before .before .before .before .before .before .before .before .before .before .before .before .before .before .before .before .before .before .before .before .before .before .before .before .before .args .steps .now) / 4) ∷ c .before .before .before .before .before .before .before .before .before .before .before .before .before .before .before .before .before .before .worst .result ∷ [])) l1 (words-three _ _ _ (omega (arith, c .before .before .before .before .before .before .before .before .before .before .before .before .before .before .before .before .before .before .before .before .before .before .before .before .before .before .pre .0 .variable-limit, c .before .before .before .before .before .before .before .before .before .before .before .before .before .before .before .before .before .before .before .before .before .before .before .before .before .before .pre .0 .product-limit)) (omega (arith, few)) (c .before .before .before .before .before .before .before .before .before .before .before .before .before .before .before .before .before .before .worst .ok)) (omega arith) (c .before .before .before .before .before .before .before .before .before .before .before .put-figures .ensures .0) (c .before .before .before .before .before .before .before .before .before .before .before .put-figures .ensures .1) in
+    let s = c .before .before .before .before .before .before .before .before .before .before .before .before .before .before .before .before .before .before .before .before .before .before .before .before .before .before in
+    let few : length (s .args .steps .now) / 4 ≤ 5000 = rw (step-count (s .args .plan) (s .args .weights .now) (s .args .d .now) (s .args .beta .now) (s .args .steps .now) (s .pre .1 .1 .1 .1 .0)) (few-steps (s .args .plan) (s .pre .0)) in
+    let l1 = left-next 23 131049 figureNames (left-none 131072 (s .args .out .now) 0 (s .pre .1 .1 .1 .1 .1)) (omega arith) (omega arith) (c .before .before .before .before .before .before .before .before .before .before .before .before .before .before .before .put-bytes .ensures .0) (c .before .before .before .before .before .before .before .before .before .before .before .before .before .before .before .put-bytes .ensures .1) in
+    let l2 = left-next 63 130986 (line ((s .args .plan .m + 2 * s .args .plan .t) ∷ (length (s .args .steps .now) / 4) ∷ c .before .before .before .before .before .before .before .before .before .before .before .before .before .before .before .before .before .before .worst .result ∷ [])) l1 (three-most _ _ _) (omega arith) (c .before .before .before .before .before .before .before .before .before .before .before .put-figures .ensures .0) (c .before .before .before .before .before .before .before .before .before .before .before .put-figures .ensures .1) in
     let l3 = left-next 16 130970 stepNames l2 (omega arith) (omega arith) (c .before .before .before .before .before .before .put-bytes2 .ensures .0) (c .before .before .before .before .before .before .put-bytes2 .ensures .1) in
-    let small = small-steps (c .before .before .before .before .before .before .before .before .before .before .before .before .before .before .before .before .before .before .before .before .before .before .before .before .before .before .args .plan) (c .before .before .before .before .before .before .before .before .before .before .before .before .before .before .before .before .before .before .before .before .before .before .before .before .before .before .args .weights .now) (c .before .before .before .before .before .before .before .before .before .before .before .before .before .before .before .before .before .before .before .before .before .before .before .before .before .before .args .d .now) (c .before .before .before .before .before .before .before .before .before .before .before .before .before .before .before .before .before .before .before .before .before .before .before .before .before .before .args .beta .now) (c .before .before .before .before .before .before .before .before .before .before .before .before .before .before .before .before .before .before .before .before .before .before .before .before .before .before .args .steps .now) (c .before .before .before .before .before .before .before .before .before .before .before .before .before .before .before .before .before .before .before .before .before .before .before .before .before .before .pre .0) (c .before .before .before .before .before .before .before .before .before .before .before .before .before .before .before .before .before .before .before .before .before .before .before .before .before .before .pre .1 .0 .0) (c .before .before .before .before .before .before .before .before .before .before .before .before .before .before .before .before .before .before .before .before .before .before .before .before .before .before .pre .1 .0 .1) (c .before .before .before .before .before .before .before .before .before .before .before .before .before .before .before .before .before .before .before .before .before .before .before .before .before .before .pre .1 .1 .0 .0) (c .before .before .before .before .before .before .before .before .before .before .before .before .before .before .before .before .before .before .before .before .before .before .before .before .before .before .pre .1 .1 .0 .1) (c .before .before .before .before .before .before .before .before .before .before .before .before .before .before .before .before .before .before .before .before .before .before .before .before .before .before .pre .1 .1 .1 .0 .1) (c .before .before .before .before .before .before .before .before .before .before .before .before .before .before .before .before .before .before .before .before .before .before .before .before .before .before .pre .1 .1 .1 .1 .0) in
-    let l4 = left-next 80000 0 (joined (stepLine (c .before .before .before .before .before .before .before .before .before .before .before .before .before .before .before .before .before .before .before .before .before .before .before .before .before .before .args .steps .now)) (length (c .before .before .before .before .before .before .before .before .before .before .before .before .before .before .before .before .before .before .before .before .before .before .before .before .before .before .args .steps .now) / 4)) l3 (omega (arith, few, lines-room (c .before .before .before .before .before .before .before .before .before .before .before .before .before .before .before .before .before .before .before .before .before .before .before .before .before .before .args .steps .now) small (length (c .before .before .before .before .before .before .before .before .before .before .before .before .before .before .before .before .before .before .before .before .before .before .before .before .before .before .args .steps .now) / 4))) (omega arith) (c .before .before .put-steps .ensures .0) (c .before .before .put-steps .ensures .1) in
-    let r = put-as (listing-as (c .before .before .before .before .before .before .before .before .before .before .before .before .before .before .before .before .before .before .before .before .before .before .before .before .before .before .args .plan) (c .before .before .before .before .before .before .before .before .before .before .before .before .before .before .before .before .before .before .before .before .before .before .before .before .before .before .args .weights .now) (c .before .before .before .before .before .before .before .before .before .before .before .before .before .before .before .before .before .before .before .before .before .before .before .before .before .before .args .d .now) (c .before .before .before .before .before .before .before .before .before .before .before .before .before .before .before .before .before .before .before .before .before .before .before .before .before .before .args .beta .now) (c .before .before .before .before .before .before .before .before .before .before .before .before .before .before .before .before .before .before .before .before .before .before .before .before .before .before .args .steps .now) _ _ (c .before .before .before .before .before .before .before .before .before .before .before .before .before .before .before .before .before .before .before .before .before .before .before .before .before .before .pre .1 .1 .1 .1 .0) (step-count (c .before .before .before .before .before .before .before .before .before .before .before .before .before .before .before .before .before .before .before .before .before .before .before .before .before .before .args .plan) (c .before .before .before .before .before .before .before .before .before .before .before .before .before .before .before .before .before .before .before .before .before .before .before .before .before .before .args .weights .now) (c .before .before .before .before .before .before .before .before .before .before .before .before .before .before .before .before .before .before .before .before .before .before .before .before .before .before .args .d .now) (c .before .before .before .before .before .before .before .before .before .before .before .before .before .before .before .before .before .before .before .before .before .before .before .before .before .before .args .beta .now) (c .before .before .before .before .before .before .before .before .before .before .before .before .before .before .before .before .before .before .before .before .before .before .before .before .before .before .args .steps .now) (c .before .before .before .before .before .before .before .before .before .before .before .before .before .before .before .before .before .before .before .before .before .before .before .before .before .before .pre .1 .1 .1 .1 .0)) (c .before .before .before .before .before .before .before .before .before .before .before .before .before .before .before .before .before .before .worst .ensures)) (l4 .put) in
+    let small = small-steps (s .args .plan) (s .args .weights .now) (s .args .d .now) (s .args .beta .now) (s .args .steps .now) (s .pre .0) (s .pre .1 .0 .0) (s .pre .1 .0 .1) (s .pre .1 .1 .0 .0) (s .pre .1 .1 .0 .1) (s .pre .1 .1 .1 .0 .1) (s .pre .1 .1 .1 .1 .0) in
+    let l4 = left-next 80000 0 (joined (stepLine (s .args .steps .now)) (length (s .args .steps .now) / 4)) l3 (omega (arith, few, lines-room (s .args .steps .now) small (length (s .args .steps .now) / 4))) (omega arith) (c .before .before .put-steps .ensures .0) (c .before .before .put-steps .ensures .1) in
+    let r = put-as (listing-as (s .args .plan) (s .args .weights .now) (s .args .d .now) (s .args .beta .now) (s .args .steps .now) _ _ (s .pre .1 .1 .1 .1 .0) (step-count (s .args .plan) (s .args .weights .now) (s .args .d .now) (s .args .beta .now) (s .args .steps .now) (s .pre .1 .1 .1 .1 .0)) (c .before .before .before .before .before .before .before .before .before .before .before .before .before .before .before .before .before .before .worst .ensures)) (l4 .put) in
     (r .list, omega (arith, r .ends))
 
 pub print-listing-spec : {M : Type 1} → statement M

@@ -1,11 +1,10 @@
 -- `listing::printing::print_refusal` meets its contract: the names line, and a line of two numbers (`Puts`). Assumes nothing.
-use mathlib.Core.Path.{refl}
 use mathlib.Core.List.{[], _∷_}
 use native.Mathlib.Omega.{arith}
 use Rattle.listing.specs.Decimal.{line}
 use Rattle.listing.specs.Printed.{refusalNames, refused}
 use Rattle.listing.proofs.Puts.{left-none, left-next}
-use Rattle.listing.proofs.Lines.{words-two}
+use Rattle.listing.proofs.Lines.{two-most}
 use borrow.Author.Needs.{needs}
 use Rattle.listing.proofs.printing.print_refusal.Statement.{statement}
 use Rattle.listing.proofs.printing.print_refusal.Tie as tie
@@ -25,8 +24,9 @@ same-length c = search needs
 returns : tie.Need-returns
 unfolding refused
 returns c =
-    let l1 = left-next 13 42 refusalNames (left-none 64 (c .before .before .before .before .before .before .before .before .before .before .args .out .now) 0 (c .before .before .before .before .before .before .before .before .before .before .pre)) (omega arith) (omega arith) (c .before .before .before .before .before .before .put-bytes .ensures .0) (c .before .before .before .before .before .before .put-bytes .ensures .1) in
-    let l2 = left-next 42 0 (line (c .before .before .before .before .before .before .before .before .before .before .args .cause ∷ c .before .before .before .before .before .before .before .before .before .before .args .line ∷ [])) l1 (words-two (c .before .before .before .before .before .before .before .before .before .before .args .cause) (c .before .before .before .before .before .before .before .before .before .before .args .line) (omega arith) (c .before .before .before .before .before .before .before .before .before .before .fits .line .fits)) (omega arith) (c .before .before .put-pair .ensures .0) (c .before .before .put-pair .ensures .1) in
+    let s = c .before .before .before .before .before .before .before .before .before .before in
+    let l1 = left-next 13 42 refusalNames (left-none 64 (s .args .out .now) 0 (s .pre)) (omega arith) (omega arith) (c .before .before .before .before .before .before .put-bytes .ensures .0) (c .before .before .before .before .before .before .put-bytes .ensures .1) in
+    let l2 = left-next 42 0 (line (s .args .cause ∷ s .args .line ∷ [])) l1 (two-most (s .args .cause) (s .args .line)) (omega arith) (c .before .before .put-pair .ensures .0) (c .before .before .put-pair .ensures .1) in
     (l2 .put .list, omega (arith, l2 .put .ends))
 
 pub print-refusal-spec : {M : Type 1} → statement M

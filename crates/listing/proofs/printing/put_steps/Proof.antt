@@ -68,7 +68,9 @@ cast-put-step-4 : tie.Need-cast-put-step-4 Inv-loop μ-loop
 cast-put-step-4 c = omega (arith, c .before .before .before .before .before .before .before .before .before .pre .0 (4 * c .before .before .before .before .before .before .loop .i + 3))
 
 put-step-requires : tie.Need-put-step-requires Inv-loop μ-loop
-put-step-requires c κs = (lines-left (c .before .before .before .before .before .before .before .before .before .args .steps .now) (c .before .before .before .before .before .before .before .before .before .pre .0) (c .before .before .before .before .before .before .loop .i) (c .before .before .before .before .before .before .loop .inv .1) (c .before .before .before .before .before .loop-test .taken) (c .before .before .before .before .before .before .before .before .before .pre .1), (c .before .before .before .before .before .before .before .before .before .pre .0 (4 * c .before .before .before .before .before .before .loop .i), c .before .before .before .before .before .before .before .before .before .pre .0 (4 * c .before .before .before .before .before .before .loop .i + 1), c .before .before .before .before .before .before .before .before .before .pre .0 (4 * c .before .before .before .before .before .before .loop .i + 2), c .before .before .before .before .before .before .before .before .before .pre .0 (4 * c .before .before .before .before .before .before .loop .i + 3)))
+put-step-requires c κs =
+    let s = c .before .before .before .before .before .before .before .before .before in
+    (lines-left (s .args .steps .now) (s .pre .0) (c .before .before .before .before .before .before .loop .i) (c .before .before .before .before .before .before .loop .inv .1) (c .before .before .before .before .before .loop-test .taken) (s .pre .1), (s .pre .0 (4 * c .before .before .before .before .before .before .loop .i), s .pre .0 (4 * c .before .before .before .before .before .before .loop .i + 1), s .pre .0 (4 * c .before .before .before .before .before .before .loop .i + 2), s .pre .0 (4 * c .before .before .before .before .before .before .loop .i + 3)))
 
 add-i : tie.Need-add-i Inv-loop μ-loop
 add-i c = omega arith
@@ -77,7 +79,9 @@ loop-less : tie.Need-loop-less Inv-loop μ-loop
 loop-less c = omega arith
 
 loop-again : tie.Need-loop-again Inv-loop μ-loop
-loop-again c = (omega arith, lines-turn (c .before .before .before .before .before .before .before .before .before .before .before .before .args .steps .now) (c .before .before .before .before .before .before .before .before .before .before .before .before .pre .0) (c .before .before .before .before .before .before .before .before .before .loop .i) (c .before .before .before .before .before .before .before .before .before .loop .inv .1) (c .before .before .before .before .before .before .before .before .loop-test .taken) (c .before .before .before .before .before .before .before .before .before .before .before .before .pre .1) (c .before .before .put-step .ensures .0) (c .before .before .put-step .ensures .1))
+loop-again c =
+    let s = c .before .before .before .before .before .before .before .before .before .before .before .before in
+    (omega arith, lines-turn (s .args .steps .now) (s .pre .0) (c .before .before .before .before .before .before .before .before .before .loop .i) (c .before .before .before .before .before .before .before .before .before .loop .inv .1) (c .before .before .before .before .before .before .before .before .loop-test .taken) (s .pre .1) (c .before .before .put-step .ensures .0) (c .before .before .put-step .ensures .1))
 
 same-length : tie.Need-same-length Inv-loop μ-loop
 same-length c = put-length (c .before .loop .inv .1)

@@ -7,7 +7,7 @@ use lib.Seq.{length-take-le}
 use Rattle.plan.specs.Causes.{first}
 use Rattle.plan.specs.Numbers.{plan, Within}
 use Rattle.program.specs.Layout.{stepCount}
-use Rattle.program.specs.Calls.{writeCauses, writingCauses}
+use Rattle.program.specs.Calls.{writingCauses}
 use Rattle.plan.specs.declared.numbers.Plan.{Plan}
 use Rattle.program.proofs.Shape.{step-limit}
 use Rattle.program.proofs.Answers.{writing-accepted, write-within, handed-refused, handed-done}

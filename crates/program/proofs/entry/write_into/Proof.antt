@@ -1,10 +1,9 @@
 -- `program::entry::write_into` meets its contract: each return is the first cause met, and only the last one has written. Assumes nothing.
-use mathlib.Core.Path.{_≡_, sym, subst, _∙_}
+use mathlib.Core.Path.{_≡_, sym, _∙_}
 use native.Mathlib.Nat.{pos-of-ne-zero}
 use native.Mathlib.Omega.{arith}
 use Rattle.plan.specs.Numbers.{checked}
 use Rattle.plan.specs.declared.numbers.Checked.the-variants.{Accepted, Refused}
-use Rattle.plan.specs.declared.numbers.Plan.{Plan}
 use Rattle.plan.proofs.Refusals.{call-plan, call-within}
 use Rattle.program.proofs.Answers.{writing-accepted, write-numbers, write-checked, written-refused, written-done}
 use Rattle.program.proofs.Shape.{layout-length}

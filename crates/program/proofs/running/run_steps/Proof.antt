@@ -1,7 +1,7 @@
 -- `program::running::run_steps` meets its contract: before each step the state is that of the definition (`Running` of `Interpreting`),
 -- and each arm is one of its turns. Assumes nothing.
-use mathlib.Core.Path.{_≡_, ap, ap₂, _∙_}
-use Prim.Native.Nat.{ℕ, _-_, _/_, _<_}
+use mathlib.Core.Path.{ap₂, _∙_}
+use Prim.Native.Nat.{_-_, _/_, _<_}
 use native.Mathlib.Nat.{mod-lt}
 use native.Mathlib.Omega.{arith}
 use lib.ListN.{length}

@@ -1,9 +1,9 @@
 -- `program::running::square_at` meets its contract: three bytes' product fits. Assumes nothing.
-use mathlib.Core.Path.{_≡_, ap}
-use Prim.Native.Nat.{ℕ, _*_, _%_, _≤_, _<_}
+use mathlib.Core.Path.{ap}
+use Prim.Native.Nat.{ℕ, _*_, _%_, _≤_}
 use native.Mathlib.Nat.{mul-le-mul, mod-lt}
 use native.Mathlib.Omega.{arith}
-use Rattle.field.specs.Residues.{square, inverse}
+use Rattle.field.specs.Residues.{square}
 use borrow.Author.Needs.{needs}
 use Rattle.program.proofs.running.square_at.Statement.{statement}
 use Rattle.program.proofs.running.square_at.Tie as tie

@@ -1,7 +1,6 @@
 -- `program::running::table_at` meets its contract: a link's table by its place, table m by its formula, and table m+1 from it.
 -- Assumes nothing.
-use mathlib.Core.Path.{_≡_, sym, _∙_}
-use Prim.Native.Nat.{_<_}
+use mathlib.Core.Path.{sym, _∙_}
 use native.Mathlib.Omega.{arith}
 use Rattle.plan.proofs.Bounds.{prime-low, modulus}
 use Rattle.plan.proofs.Chains.{table-room}

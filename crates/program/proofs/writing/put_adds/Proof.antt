@@ -1,6 +1,5 @@
 -- `program::writing::put_adds` meets its contract: after j turns the first j steps of the sum are written (`Placement`).
 -- Assumes nothing.
-use mathlib.Core.Path.{_≡_}
 use Prim.Native.Nat.{_-_, _≤_}
 use native.Mathlib.Omega.{arith}
 use lib.ListN.{length}

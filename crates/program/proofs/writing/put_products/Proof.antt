@@ -1,5 +1,4 @@
 -- `program::writing::put_products` meets its contract: after i turns the first i products are written. Assumes nothing.
-use mathlib.Core.Path.{_≡_}
 use Prim.Native.Nat.{_-_, _≤_}
 use native.Mathlib.Omega.{arith}
 use Rattle.lists.specs.Places.{joined}

@@ -10,7 +10,7 @@ use Rattle.lists.proofs.Parts.{cut-length}
 use Rattle.plan.specs.Numbers.{variables, columns}
 use Rattle.plan.proofs.Blocks.{last-room}
 use Rattle.program.specs.Layout.{clear, adds, linkSteps, productSteps, layout}
-use Rattle.program.specs.Placed.{Room, Wrote}
+use Rattle.program.specs.Placed.{Room}
 use Rattle.program.proofs.Placement.{layout-split, room-front, wrote-room, wrote-4}
 use borrow.Author.Needs.{needs}
 use Rattle.program.proofs.writing.put_program.Statement.{statement}

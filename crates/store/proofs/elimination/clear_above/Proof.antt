@@ -1,6 +1,6 @@
 -- `store::elimination::clear_above` meets its contract: row after row above row k is cleared (`Clearing`). Assumes nothing.
-use mathlib.Core.Path.{_≡_, sym, _∙_}
-use Prim.Native.Nat.{_+_, _-_, _<_}
+use mathlib.Core.Path.{_≡_, refl, sym, _∙_}
+use Prim.Native.Nat.{_+_, _-_, _*_, _<_}
 use native.Mathlib.Nat.{le-of-lt}
 use native.Mathlib.Omega.{arith}
 use Rattle.lists.specs.Places.{at}
@@ -12,10 +12,10 @@ use Rattle.store.proofs.elimination.clear_above.Statement.{statement}
 use Rattle.store.proofs.elimination.clear_above.Tie as tie
 
 abbrev Inv-loop : tie.InvT-loop
-Inv-loop store₀ pivot k c p width begin₀ r₀ store begin r = Cleared p c (cells c store₀) (at pivot) k r begin store
+Inv-loop store₀ pivot k c p width r₀ store r = Cleared p c (cells c store₀) (at pivot) k r store
 
 abbrev μ-loop : tie.MeasureT-loop
-μ-loop store₀ pivot k c p width begin₀ r₀ store begin r = k - r
+μ-loop store₀ pivot k c p width r₀ store r = k - r
 
 add-width : tie.Need-add-width Inv-loop μ-loop
 add-width c = omega arith
@@ -23,11 +23,14 @@ add-width c = omega arith
 loop-holds : tie.Need-loop-holds Inv-loop μ-loop
 loop-holds c = cleared-none _ _ _ _ _ (c .before .before .pre .0 .places)
 
+mul-begin : tie.Need-mul-begin Inv-loop μ-loop
+mul-begin c = omega (arith, tail-end (c .before .before .before .before .args .c) (c .before .loop .store) (c .before .loop .r) (c .before .before .before .before .args .k) (c .before .loop .r * (c .before .before .before .before .args .c + 1)) (c .before .loop .inv .places) (omega arith) (omega arith) refl)
+
 add-a : tie.Need-add-a Inv-loop μ-loop
-add-a c = omega (arith, tail-end (c .before .before .before .before .args .c) (c .before .loop .store) (c .before .loop .r) (c .before .before .before .before .args .k) (c .before .loop .begin) (c .before .loop .inv .places) (omega arith) (omega arith) (c .before .loop .inv .begins))
+add-a c = omega (arith, tail-end (c .before .before .before .before .args .c) (c .before .loop .store) (c .before .loop .r) (c .before .before .before .before .args .k) (c .before .loop .r * (c .before .before .before .before .args .c + 1)) (c .before .loop .inv .places) (omega arith) (omega arith) refl)
 
 add-end : tie.Need-add-end Inv-loop μ-loop
-add-end c = omega (arith, tail-end (c .before .before .before .before .args .c) (c .before .loop .store) (c .before .loop .r) (c .before .before .before .before .args .k) (c .before .loop .begin) (c .before .loop .inv .places) (omega arith) (omega arith) (c .before .loop .inv .begins))
+add-end c = omega (arith, tail-end (c .before .before .before .before .args .c) (c .before .loop .store) (c .before .loop .r) (c .before .before .before .before .args .k) (c .before .loop .r * (c .before .before .before .before .args .c + 1)) (c .before .loop .inv .places) (omega arith) (omega arith) refl)
 
 sub-clear-row : tie.Need-sub-clear-row Inv-loop μ-loop
 sub-clear-row c = omega arith
@@ -36,7 +39,7 @@ part-clear-row-start : tie.Need-part-clear-row-start Inv-loop μ-loop
 part-clear-row-start c = omega arith
 
 part-clear-row-end : tie.Need-part-clear-row-end Inv-loop μ-loop
-part-clear-row-end c = tail-end (c .before .before .before .before .args .c) (c .before .loop .store) (c .before .loop .r) (c .before .before .before .before .args .k) (c .before .loop .begin) (c .before .loop .inv .places) (omega arith) (omega arith) (c .before .loop .inv .begins)
+part-clear-row-end c = tail-end (c .before .before .before .before .args .c) (c .before .loop .store) (c .before .loop .r) (c .before .before .before .before .args .k) (c .before .loop .r * (c .before .before .before .before .args .c + 1)) (c .before .loop .inv .places) (omega arith) (omega arith) refl
 
 sub-clear-row-2 : tie.Need-sub-clear-row-2 Inv-loop μ-loop
 sub-clear-row-2 c = omega arith
@@ -51,7 +54,7 @@ clear-row-requires : tie.Need-clear-row-requires Inv-loop μ-loop
 clear-row-requires c κs =
     let s = c .before .before .before .before .before .before in
     let pos : 0 < s .args .p = omega (arith, s .pre .0 .modulus .0) in
-    let tail = tail-length (s .args .c) (c .before .before .before .loop .store) (c .before .before .before .loop .r) (s .args .k) (c .before .before .before .loop .begin) (c .before .before .before .loop .inv .places) (omega arith) (omega arith) (c .before .before .before .loop .inv .begins) in
+    let tail = tail-length (s .args .c) (c .before .before .before .loop .store) (c .before .before .before .loop .r) (s .args .k) (c .before .before .before .loop .r * (s .args .c + 1)) (c .before .before .before .loop .inv .places) (omega arith) (omega arith) refl in
     let cut = cut-length (s .args .p) (s .args .c) (cells (s .args .c) (s .args .store .now)) (s .args .pivot .now) (s .args .k) (s .pre .0 .reduced) (s .pre .1 .0) (s .pre .1 .1 .0) in (
       s .pre .0 .modulus,
       (
@@ -86,6 +89,7 @@ clear-above-spec =
     μ-loop
     add-width
     loop-holds
+    mul-begin
     add-a
     add-end
     sub-clear-row

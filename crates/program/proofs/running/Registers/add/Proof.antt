@@ -1,6 +1,5 @@
 -- `program::running::Registers::add` meets its contract: the new value is `cell`'s. Assumes nothing.
-use mathlib.Core.Path.{_≡_, ap}
-use Prim.Native.Nat.{ℕ}
+use mathlib.Core.Path.{ap}
 use native.Mathlib.Nat.{le-of-lt}
 use lib.ListN.{set}
 use borrow.Author.Needs.{needs}

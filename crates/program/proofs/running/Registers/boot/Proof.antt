@@ -1,5 +1,5 @@
 -- `program::running::Registers::boot` meets its contract: the new value is `table_at`'s. Assumes nothing.
-use mathlib.Core.Path.{_≡_, ap}
+use mathlib.Core.Path.{ap}
 use lib.ListN.{set}
 use borrow.Author.Needs.{needs}
 use Rattle.program.proofs.running.Registers.boot.Statement.{statement}
