@@ -25,9 +25,9 @@ use Rattle.field.specs.Rows.{multiple, plusMultiple}
 use Rattle.field.proofs.Ranges.{residues-tab}
 use Rattle.field.proofs.Modular.{cong-of}
 use Rattle.store.specs.Elimination.{ZeroRow, Reduced, normal, put, cells, flat}
-use Rattle.store.specs.Stages.{Ready, Line, cleared}
+use Rattle.store.specs.Stages.{Line, cleared}
 use Rattle.store.proofs.Bytes.{flat-length, cells-flat, flat-cells, flat-ext}
-use Rattle.store.proofs.Residuals.{normal-small, normal-zero}
+use Rattle.store.proofs.Residuals.{normal-zero}
 use Rattle.store.proofs.Putting.{put-here, put-there}
 use Rattle.store.proofs.Pasting.{rowTail, tailPasted, tail-length, tail-at, tail-residues, tail-size, tail-row, tail-left, tail-other}
 use Rattle.store.proofs.Deferring.{left-zero}

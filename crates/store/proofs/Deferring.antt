@@ -23,7 +23,7 @@ use Rattle.field.specs.Residues.{Residues}
 use Rattle.field.specs.Rows.{plusTimes, remainders}
 use Rattle.field.proofs.Ranges.{residues-tab}
 use Rattle.field.proofs.Modular.{cong-add, sum-cong, mul-mod-l}
-use Rattle.store.specs.Elimination.{ZeroRow, Pivot, Reduced, residual, cells}
+use Rattle.store.specs.Elimination.{ZeroRow, Reduced, residual, cells}
 use Rattle.store.specs.Stages.{Ready, Line, deferred}
 use Rattle.store.proofs.Pasting.{pasted-length, pasted-before, pasted-within, rowTail, tail-length, tail-at}
 

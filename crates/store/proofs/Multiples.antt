@@ -4,7 +4,7 @@
 --     plus-factor      the negative of a residue that is not 0
 --     clear-none       p times a row, modulo p
 -- Assumes nothing.
-use mathlib.Core.Path.{_≡_, refl, sym, ap, _∙_}
+use mathlib.Core.Path.{_≡_, refl, sym, _∙_}
 use mathlib.Core.List.{List}
 use Prim.Native.Nat.{ℕ, _+_, _-_, _*_, _%_, _<_}
 use native.Mathlib.Nat.{add-zero, mul-zero, zero-mul, sub-zero, mod-self, mod-eq-of-lt}

@@ -9,11 +9,11 @@
 -- A row passed with a 1 on the diagonal has nothing below it in that column either, since the rows below are zero left of their diagonal.
 -- Assumes nothing.
 use mathlib.Core.Path.{_≡_, refl, sym, ap, ap₂, _∙_}
-use mathlib.Core.Bool.{Bool, true, false, _&&_, _||_, true≢false, false≢true}
-use mathlib.Core.Logic.{_⊎_, inl, inr, ⊎-elim, ⊎-map, _↔_, _≢_}
+use mathlib.Core.Bool.{Bool, true, false, _&&_, _||_, false≢true}
+use mathlib.Core.Logic.{_⊎_, ⊎-elim, ⊎-map, _↔_}
 use mathlib.Core.List.{List}
 use Prim.Native.Nat.{ℕ, zero, suc, _+_, _-_, _*_, _≤_, _<_, max}
-use native.Mathlib.Nat.{not-suc-le-zero, le-step, lt-suc-self, le-of-lt, eq-or-lt-of-le, le-of-suc-le-suc, le-max-left, le-max-right, max-zero, add-sub-cancel-left, mul-le-mul-right}
+use native.Mathlib.Nat.{not-suc-le-zero, le-step, lt-suc-self, le-of-lt, eq-or-lt-of-le, le-of-suc-le-suc, le-max-left, le-max-right, add-sub-cancel-left, mul-le-mul-right}
 use native.Mathlib.Numerals.{add-one}
 use native.Mathlib.Decide.{decLt}
 use native.Mathlib.Omega.{arith}

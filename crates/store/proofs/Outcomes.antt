@@ -6,11 +6,11 @@
 --     new-answer, new-store             a new equation
 --     conflict-answer, implied-answer, same-store       a contradiction and an implied equation, which leave the store
 -- Assumes nothing.
-use mathlib.Core.Path.{_≡_, refl, sym, ap, ap₂, subst⁻¹, _∙_}
+use mathlib.Core.Path.{_≡_, refl, sym, ap, subst⁻¹, _∙_}
 use mathlib.Core.Logic.{⊎-elim}
 use mathlib.Core.List.{List, _++_}
 use Prim.Native.Nat.{ℕ, _+_, _*_, _≤_, _<_}
-use native.Mathlib.Nat.{le-of-lt, le-refl}
+use native.Mathlib.Nat.{le-of-lt}
 use native.Mathlib.Omega.{arith}
 use lib.ListN.{length, take, length-append, List·getD-append}
 use lib.Seq.{length-take-le, take-at, getD-take}
@@ -19,9 +19,8 @@ use Rattle.lists.specs.Places.{tab, at}
 use Rattle.lists.proofs.Tabs.{tab-length, tab-at}
 use Rattle.field.proofs.Ranges.{residues-tab}
 use Rattle.store.specs.Elimination.{ZeroRow, Reduced, residual, lead, normal, put, outcome, after, cells, flat}
-use Rattle.store.specs.Stages.{Ready, Line}
+use Rattle.store.specs.Stages.{Line}
 use Rattle.store.specs.Calls.{answered}
-use Rattle.store.specs.declared.elimination.Filed.{Filed}
 use Rattle.store.specs.declared.elimination.Filed.the-variants.{New, Implied, Refused}
 use Rattle.store.proofs.Leads.{lead-ext, lead-before, lead-nonzero}
 use Rattle.store.proofs.Bytes.{flat-cells, flat-ext}

@@ -6,8 +6,7 @@
 --     maxima-kept, maxima-part   the maxima with a zero row counted in, and with a row that is zero left of q counted in from q on
 -- Assumes nothing.
 use mathlib.Core.Path.{_≡_, refl, sym, ap, ap₂, _∙_}
-use mathlib.Core.Bool.{Bool, true, false, cond, _&&_, _||_, or-true, or-false, true≢false}
-use mathlib.Core.Logic.{⊎-elim}
+use mathlib.Core.Bool.{Bool, true, false, cond, _&&_, or-true, or-false, true≢false}
 use mathlib.Core.List.{List, _++_}
 use Prim.Native.Nat.{ℕ, zero, suc, _+_, _-_, _≤_, _<_, max}
 use native.Mathlib.Nat.{add-zero, add-suc, le-step, lt-suc-self, max-zero}
@@ -17,7 +16,7 @@ use lib.Dec.{eqb, ltb}
 use lib.ListN.{length, take, drop}
 use lib.Seq.{length-take-le, getD-take}
 use borrow.Author.Tests.{eq-eqb, ne-eqb, eqb-true, lt-ltb, le-ltb}
-use Rattle.lists.specs.Places.{every, tab, at}
+use Rattle.lists.specs.Places.{every, at}
 use Rattle.lists.proofs.Tests.{every-at}
 use Rattle.lists.proofs.Tabs.{is-tab, tab-at, tab-length}
 use Rattle.lists.proofs.Parts.{part-length, part-at}

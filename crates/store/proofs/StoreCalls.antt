@@ -5,7 +5,7 @@
 --     filed-call                       where the other causes are not met, cause 9 is whether the outcome is a contradiction, which leaves the store
 -- Assumes nothing.
 use mathlib.Core.Path.{_≡_, refl, sym, ap, ap₂, _∙_}
-use mathlib.Core.Bool.{Bool, true, false, cond}
+use mathlib.Core.Bool.{true, cond}
 use mathlib.Core.List.{List}
 use Prim.Native.Nat.{ℕ, zero, suc, _+_, _*_, _≤_, _<_}
 use native.Mathlib.Nat.{mul-le-mul}
@@ -16,12 +16,12 @@ use Rattle.plan.specs.Causes.{result}
 use Rattle.plan.specs.Numbers.{columns, Within}
 use Rattle.plan.proofs.Bounds.{modulus}
 use Rattle.plan.proofs.Refusals.{result-refused}
-use Rattle.store.specs.Elimination.{Outcome, new, implied, contradiction, isReduced, outcome, after, cells, flat}
+use Rattle.store.specs.Elimination.{Outcome, new, implied, contradiction, isReduced, outcome, cells, flat}
 use Rattle.store.specs.Filings.{isContradiction}
 use Rattle.store.specs.Stages.{Ready}
 use Rattle.store.specs.Calls.{equation, answered, filed}
 use Rattle.store.specs.declared.elimination.Filed.{Filed}
-use Rattle.store.specs.declared.elimination.Filed.the-variants.{New, Implied, Refused}
+use Rattle.store.specs.declared.elimination.Filed.the-variants.{Refused}
 use Rattle.store.proofs.Bytes.{flat-cells}
 use Rattle.store.proofs.ReducedForm.{isReduced-means}
 use Rattle.store.proofs.Answers.{contradiction-same}

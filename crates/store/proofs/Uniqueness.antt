@@ -4,7 +4,8 @@
 --     meets              within S′, a row of S with a 1 in its own column agrees with that row of S′ at each column to which no other row adds
 --     pivot-stays        a pivot of S is a pivot of S′
 --     zero-stays         with S′ within S too, a zero row of S is a zero row of S′
---     reduced-unique     the theorem
+--     reduced-unique     the theorem, place by place
+--     stores-equal       the theorem, byte for byte
 -- A row of S is satisfied by every solution of S′, so S′ implies it and its residual is zero: the row is the sum of its coefficients times
 -- the rows of S′. In column q of row q, rows above q add nothing, since row q of S is zero left of q, and rows below q add nothing, since they
 -- begin right of q; so S and S′ have the same pivots. Then no row but q adds anything to row q.
@@ -23,7 +24,8 @@ use Rattle.field.specs.Primes.{oddPrime}
 use Rattle.field.specs.Residues.{Residues}
 use Rattle.field.proofs.PrimeTable.{oddPrime-means}
 use Rattle.field.proofs.Modular.{cong-of, cong-add, cong-residue, sum-cong}
-use Rattle.store.specs.Elimination.{Solves, ZeroRow, Pivot, Reduced, residual}
+use Rattle.store.specs.Elimination.{Solves, ZeroRow, Pivot, Reduced, residual, cells}
+use Rattle.store.proofs.Bytes.{flat-cells, flat-ext}
 use Rattle.lists.proofs.Sums.{sum-only}
 use Rattle.store.proofs.ReducedForm.{off-pivot}
 use Rattle.store.proofs.Answers.{implied-zero}
@@ -101,3 +103,13 @@ reduced-unique p C prime S S′ red red′ h q j l k =
 
     off : Pivot C S q → (r : ℕ) → r < C → r ≢ q → (S q r ≡ 0) ⊎ (S′ r j ≡ 0)
     off v r i d = ⊎-map (λ z. z) (λ z. zero-stays r i z j k) (off-pivot p C S red q r l i (λ e. d (sym e)))
+
+-- the same of two stores' bytes: "the one reduced form" is meant literally
+pub stores-equal : (p C : ℕ) → oddPrime p ≡ true → (store store′ : List ℕ) → length store ≡ C * (C + 1) → length store′ ≡ C * (C + 1)
+    → Reduced p C (cells C store) → Reduced p C (cells C store′)
+    → ((β : List ℕ) → length β ≡ C → Residues p β → (Solves p C (cells C store) (at β) ↔ Solves p C (cells C store′) (at β)))
+    → store ≡ store′
+stores-equal p C prime store store′ n n′ red red′ h =
+    sym (flat-cells C store n)
+    ∙ flat-ext C (cells C store) (cells C store′) (reduced-unique p C prime (cells C store) (cells C store′) red red′ h)
+    ∙ flat-cells C store′ n′

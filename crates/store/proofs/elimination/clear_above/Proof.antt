@@ -1,7 +1,6 @@
 -- `store::elimination::clear_above` meets its contract: row after row above row k is cleared (`Clearing`). Assumes nothing.
-use mathlib.Core.Path.{_≡_, refl, sym, _∙_}
+use mathlib.Core.Path.{refl, sym, _∙_}
 use Prim.Native.Nat.{_+_, _-_, _*_, _<_}
-use native.Mathlib.Nat.{le-of-lt}
 use native.Mathlib.Omega.{arith}
 use Rattle.lists.specs.Places.{at}
 use Rattle.store.specs.Elimination.{cells}

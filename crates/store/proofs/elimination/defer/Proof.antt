@@ -1,5 +1,5 @@
 -- `store::elimination::defer` meets its contract: row after row is subtracted from e (`Deferring`). Assumes nothing.
-use mathlib.Core.Path.{_≡_, sym, ap, subst⁻¹, _∙_}
+use mathlib.Core.Path.{sym, ap, subst⁻¹, _∙_}
 use mathlib.Core.List.{List}
 use Prim.Native.Nat.{ℕ, _+_, _-_, _<_}
 use native.Mathlib.Nat.{le-of-lt}

@@ -1,8 +1,7 @@
 -- `store::elimination::file_equation` meets its contract: the residual is the local array's front; by its first coefficient the equation is
 -- new, and else by its right-hand side implied or a contradiction (`Outcomes`). Assumes nothing.
-use mathlib.Core.Path.{_≡_, sym, ap, _∙_}
-use mathlib.Core.List.{List}
-use Prim.Native.Nat.{ℕ, _+_, _<_}
+use mathlib.Core.Path.{_≡_, sym, _∙_}
+use Prim.Native.Nat.{_+_, _<_}
 use native.Mathlib.Omega.{arith}
 use lib.Seq.{length-take-le}
 use borrow.Author.Needs.{needs}

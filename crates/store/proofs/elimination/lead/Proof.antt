@@ -3,7 +3,7 @@ use mathlib.Core.Path.{_≡_, sym}
 use Prim.Native.Nat.{ℕ, _-_, _≤_, _<_}
 use native.Mathlib.Omega.{arith}
 use lib.ListN.{length}
-use borrow.Author.Count.{below-none, below-more}
+use borrow.Author.Count.{below-more}
 use Rattle.lists.specs.Places.{at}
 use Rattle.store.proofs.Leads.{lead-is}
 use Rattle.store.proofs.elimination.lead.Statement.{statement}

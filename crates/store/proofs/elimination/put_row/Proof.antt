@@ -2,7 +2,7 @@
 -- from the rows above, and is written as row k (`Clearing`). Assumes nothing.
 use mathlib.Core.Path.{_≡_, refl, sym, ap, subst⁻¹, _∙_}
 use mathlib.Core.List.{List, _++_}
-use Prim.Native.Nat.{ℕ, _+_, _-_, _*_, _≤_, _<_}
+use Prim.Native.Nat.{ℕ, _+_, _*_, _≤_, _<_}
 use native.Mathlib.Nat.{le-of-lt, mod-lt, mul-le-mul-right}
 use native.Mathlib.Omega.{arith}
 use lib.ListN.{length, take, length-append}
@@ -10,7 +10,7 @@ use lib.Seq.{length-take-le, take-at}
 use borrow.Author.Needs.{needs}
 use Rattle.lists.specs.Places.{at}
 use Rattle.field.specs.Residues.{inverse}
-use Rattle.store.specs.Elimination.{normal, cells}
+use Rattle.store.specs.Elimination.{normal}
 use Rattle.store.specs.Stages.{Line}
 use Rattle.store.proofs.Bytes.{flat-length}
 use Rattle.store.proofs.Residuals.{normal-small, normal-zero}

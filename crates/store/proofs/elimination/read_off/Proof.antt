@@ -1,7 +1,7 @@
 -- `store::elimination::read_off` meets its contract: a loop that writes beta in place (`Overwrite` of lists), with a at the right-hand
 -- side of row q. Assumes nothing.
 use mathlib.Core.Path.{_≡_, sym, ap, _∙_}
-use Prim.Native.Nat.{ℕ, _+_, _-_, _*_, _≤_}
+use Prim.Native.Nat.{_+_, _-_, _*_}
 use native.Mathlib.Nat.{mul-le-mul-right}
 use native.Mathlib.Omega.{arith}
 use Rattle.lists.specs.Places.{at}

@@ -1,6 +1,6 @@
 -- `store::elimination::subtract_row` meets its contract: where the factor is 0, or the row zero, nothing is added (`Multiples`).
 -- Assumes nothing.
-use mathlib.Core.Path.{_≡_, refl, ap, _∙_}
+use mathlib.Core.Path.{ap, _∙_}
 use Prim.Native.Nat.{ℕ}
 use borrow.Author.Needs.{needs}
 use Rattle.field.specs.Rows.{plusTimes}

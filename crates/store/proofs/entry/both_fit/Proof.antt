@@ -1,5 +1,4 @@
 -- `store::entry::both_fit` meets its contract: the store's size fits in the machine's numbers. Assumes nothing.
-use mathlib.Core.Path.{_≡_}
 use native.Mathlib.Omega.{arith}
 use borrow.Author.Tests.{eq-eqb, ne-eqb}
 use borrow.Author.Needs.{needs}

@@ -1,6 +1,6 @@
 -- `store::entry::file` meets its contract: each return is the first cause met (`Refusals` of plan), and only the last one may have written
 -- the store (`StoreCalls`). Assumes nothing.
-use mathlib.Core.Path.{_≡_, refl, sym, ap, _∙_}
+use mathlib.Core.Path.{_≡_, sym, ap, _∙_}
 use mathlib.Core.Bool.{true}
 use Prim.Native.Nat.{ℕ, _+_, _*_}
 use native.Mathlib.Nat.{pos-of-ne-zero}

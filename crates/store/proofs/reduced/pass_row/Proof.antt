@@ -1,6 +1,6 @@
 -- `store::reduced::pass_row` meets its contract: each return is the test's value by what was looked at so far, and only the last one has
 -- counted the row into the maxima (`Passing`). Assumes nothing.
-use mathlib.Core.Path.{_≡_, refl, sym, ap, _∙_}
+use mathlib.Core.Path.{refl, sym, _∙_}
 use native.Mathlib.Omega.{arith}
 use lib.Seq.{length-take-le}
 use borrow.Author.Tests.{not-true, not-false}

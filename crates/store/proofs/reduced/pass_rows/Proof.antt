@@ -1,11 +1,10 @@
 -- `store::reduced::pass_rows` meets its contract: the rows are passed in turn (`OneReading`). Assumes nothing.
-use mathlib.Core.Path.{_≡_, refl, sym, ap, _∙_}
-use mathlib.Core.Bool.{true, cond, false≢true}
+use mathlib.Core.Path.{sym, ap, _∙_}
+use mathlib.Core.Bool.{true, false≢true}
 use Prim.Native.Nat.{_-_}
 use native.Mathlib.Omega.{arith}
 use lib.ListN.{length}
 use borrow.Author.Tests.{not-true, not-false}
-use Rattle.lists.proofs.Parts.{cut-length}
 use Rattle.store.proofs.OneReading.{Passed, passed-none, passed-length, passed-next, passed-not, passed-all, row-end, row-length}
 use Rattle.store.proofs.reduced.pass_rows.Statement.{statement}
 use Rattle.store.proofs.reduced.pass_rows.Tie as tie
