@@ -1,0 +1,247 @@
+/*
+ * celerycrag.h: look-up tables for data that stays encrypted under TFHE.
+ *
+ * The C interface of libcelerycrag.a, a library whose every function is proved
+ * to meet its contract. It works in the clear: it files tables under plans and
+ * writes programs of sums and bootstraps; encryption, keys, noise and the
+ * search for plans are the host's. It allocates nothing, keeps nothing between
+ * calls, and calls on different buffers may run at the same time. Link with
+ * -lcelerycrag; it needs nothing but the C library.
+ *
+ *
+ * THE PLAN
+ *
+ * Every call is first lent a plan: five numbers and three parts.
+ *
+ *   p         an odd prime from 3 to 251
+ *   s         the radix of the digits, 2 to p
+ *   n         the number of input digits, at least 1
+ *   m         the number of links
+ *   t         the number of products, at most 32
+ *   weights   link k (from 0) has n + k weights, links in order
+ *   tables    p values for each link, for the sums 0 to p-1 in order
+ *   d         t rows of L weights, the fixed halves of the products
+ *
+ * L = n + m, the number of variables, is at most 64. C = (t + 1) L, the number
+ * of columns, is at most 1,024. s^n, the number of entries, is at most 4,096.
+ * All bytes of the parts are below p.
+ *
+ * Variables 0 to n-1 are the digits of an entry, the most significant first.
+ * Variable n+k is table k at the sum of link k's weights, each times its
+ * variable, modulo p. A coefficient list, beta, has C residues: L for each
+ * product and L more. The value that it gives an entry is, modulo p, the sum
+ * over the products of (beta row times the variables) times (d row times the
+ * variables), plus the last beta row times the variables.
+ *
+ *
+ * WHAT IS LENT
+ *
+ * A part is a pointer and a length, counted in its own elements, and must be as
+ * long as is said. Pointers are never null, also where the length is 0: any
+ * other address will do there. What a call writes must overlap nothing else
+ * that it is lent. Beyond that any number, length and byte may be lent: the
+ * library tests all of them, and reads and writes nothing outside a part.
+ *
+ *
+ * REFUSALS
+ *
+ * Each call answers 0 where it accepts, else the number of the first cause
+ * that it meets, in the order of the numbers; lengths of all parts (4) come
+ * before values (5). A refused call leaves all that it was lent as it was, the
+ * single numbers too.
+ *
+ *
+ * COST
+ *
+ * Each call tests the plan first, which reads its parts once: less than 19,000
+ * bytes under every plan. The cost given with a call is what comes on top.
+ */
+#ifndef CELERYCRAG_H
+#define CELERYCRAG_H
+
+#include <stddef.h>
+#include <stdint.h>
+
+#ifdef __cplusplus
+extern "C" {
+#endif
+
+/* The refusals by name. */
+enum celery_refusal {
+    CELERY_ACCEPTED = 0,
+    CELERY_NO_PRIME = 1,      /* p is no odd prime from 3 to 251 */
+    CELERY_RADIX = 2,         /* s is below 2 or above p */
+    CELERY_RANGE = 3,         /* n, L, t, C or s^n is out of range */
+    CELERY_LENGTH = 4,        /* a part has another length than the plan says */
+    CELERY_NO_RESIDUE = 5,    /* a weight, table value or given beta is not below p */
+    CELERY_DAMAGED = 6,       /* the store is not in reduced form */
+    CELERY_NO_ENTRY = 7,      /* the entry is not below s^n */
+    CELERY_NO_VALUE = 8,      /* the value is not below s */
+    CELERY_CONTRADICTION = 9, /* no beta reproduces the entry with all kept before */
+    CELERY_NO_ROOM = 10,      /* the step slice is shorter than 4 times the step count */
+    CELERY_STEPS = 11,        /* the step list is malformed */
+    CELERY_NO_DIGIT = 12      /* a digit is not below s */
+};
+
+/*
+ * Lengths under a plan whose numbers pass the causes 1 to 3. They are constant
+ * where the numbers are, so arrays can be declared with them.
+ */
+#define CELERY_VARIABLES(n, m) ((n) + (m))
+#define CELERY_COLUMNS(n, m, t) (((t) + 1) * CELERY_VARIABLES(n, m))
+#define CELERY_WEIGHTS_LEN(n, m) ((m) * (n) + (m) * ((m) - 1) / 2)
+#define CELERY_TABLES_LEN(p, m) ((p) * (m))
+#define CELERY_D_LEN(n, m, t) ((t) * CELERY_VARIABLES(n, m))
+#define CELERY_STORE_LEN(n, m, t) \
+    (CELERY_COLUMNS(n, m, t) * (CELERY_COLUMNS(n, m, t) + 1))
+/* The number of steps of a written program, four 16-bit numbers each. */
+#define CELERY_STEP_COUNT(n, m, t)                                       \
+    ((m) * ((n) + 2) + (m) * ((m) - 1) / 2 + 1 +                         \
+     (t) * (2 * CELERY_VARIABLES(n, m) + 12) + CELERY_VARIABLES(n, m))
+#define CELERY_STEPS_LEN(n, m, t) (4 * CELERY_STEP_COUNT(n, m, t))
+
+/* The parameters by which every call is lent its plan. */
+#define CELERY_PLAN                                          \
+    size_t p, size_t s, size_t n, size_t m, size_t t,        \
+    const uint8_t *weights, size_t weights_len,              \
+    const uint8_t *tables, size_t tables_len,                \
+    const uint8_t *d, size_t d_len
+
+/*
+ * Checks a plan.
+ *
+ * Causes:  1 2 3 4 5.
+ * Writes:  nothing.
+ * Cost:    the test of the plan alone.
+ */
+uint8_t celery_check(CELERY_PLAN);
+
+/*
+ * The row of an entry: C residues. Row times beta, summed modulo p, is the
+ * value that beta gives the entry. The last L residues are the variables, and
+ * the first n of those the digits, which celery_run takes.
+ *
+ * Lent:    entry, any number; row, C bytes, whose old values do not matter.
+ * Causes:  1 2 3 4 5, 7.
+ * Writes:  all of row.
+ * Cost:    one multiplication for each link weight, two for each byte of d.
+ */
+uint8_t celery_row(CELERY_PLAN, size_t entry, uint8_t *row, size_t row_len);
+
+/*
+ * Tests a store. A store is C rows of C + 1 bytes, C coefficients and a
+ * right-hand side, and an empty one is all zeros. It is in reduced form when
+ * all bytes are below p, and row q is either all zero, or its first nonzero
+ * coefficient is a 1 in column q and column q is zero in every other row.
+ *
+ * Lent:    store, C (C + 1) bytes.
+ * Causes:  1 2 3 4 5, 6.
+ * Writes:  nothing.
+ * Cost:    reads the store once.
+ */
+uint8_t celery_test(CELERY_PLAN, const uint8_t *store, size_t store_len);
+
+/*
+ * Files an entry with its value: accepted, the entry is kept, and the store is
+ * afterwards the one reduced form whose rows span the same equations as the
+ * old store and the entry. It is refused with 9 exactly when no beta
+ * reproduces it together with all that the store holds.
+ *
+ * Lent:    store, C (C + 1) bytes; entry and value, any numbers; column.
+ * Causes:  1 2 3 4 5, 6, 7, 8, 9.
+ * Writes:  *column: the column of the new row's pivot where the entry was new
+ *          to the store, and C, which is no column, where the store implied
+ *          it. The store, where the entry was new; else it keeps its bytes.
+ * Cost:    celery_test and celery_row, then about C^2 multiplications to
+ *          compare the entry with the store, and as many again where it is
+ *          new.
+ */
+uint8_t celery_file(CELERY_PLAN, uint8_t *store, size_t store_len,
+                    size_t entry, size_t value, size_t *column);
+
+/*
+ * Reads the coefficients off a store: coefficient q is the right-hand side of
+ * row q. They reproduce every entry kept.
+ *
+ * Lent:    store, C (C + 1) bytes; beta, C bytes, whose old values do not
+ *          matter.
+ * Causes:  1 2 3 4 5, 6.
+ * Writes:  all of beta.
+ * Cost:    celery_test, then C bytes.
+ */
+uint8_t celery_coefficients(CELERY_PLAN, const uint8_t *store, size_t store_len,
+                            uint8_t *beta, size_t beta_len);
+
+/*
+ * Answers what celery_write answers on the same arguments, and writes nothing.
+ *
+ * Lent:    beta, C bytes below p; steps, any number of numbers, of which only
+ *          the length matters.
+ * Causes:  1 2 3 4 5, 10.
+ * Writes:  nothing.
+ * Cost:    reads beta once.
+ */
+uint8_t celery_check_writing(CELERY_PLAN, const uint8_t *beta, size_t beta_len,
+                             const uint16_t *steps, size_t steps_len);
+
+/*
+ * Writes the program of the plan and beta. A step is four numbers: kind, to,
+ * from, by.
+ *
+ *   kind 0   register `to` becomes 0; from and by are 0
+ *   kind 1   `to` gains by times `from`, modulo p
+ *   kind 2   a bootstrap: `to` becomes table number `by` at `from`
+ *
+ * Registers 0 to L-1 are the variables; then u = L, v = L+1, a = L+2, b = L+3
+ * and y = L+4, which holds the answer at the end. Tables 0 to m-1 are the link
+ * tables; table m holds at z the square of z times the inverse of 4, table m+1
+ * the negative of that, both modulo p. Every program of a plan has the same
+ * number of steps, CELERY_STEP_COUNT, and m + 2t bootstraps.
+ *
+ * Lent:    beta, C bytes below p; steps, at least 4 times the step count of
+ *          numbers; written.
+ * Causes:  1 2 3 4 5, 10.
+ * Writes:  *written: 4 times the step count. As many numbers at the beginning
+ *          of steps; the rest keeps its values.
+ * Cost:    reads beta once, then writes each number once.
+ */
+uint8_t celery_write(CELERY_PLAN, const uint8_t *beta, size_t beta_len,
+                     uint16_t *steps, size_t steps_len, size_t *written);
+
+/*
+ * Runs a list of steps in the clear: registers 0 to n-1 start as the digits,
+ * all others as 0. Any well-formed list may be run, an empty one too, not only
+ * what celery_write wrote. A list is malformed (11) where its length is no
+ * multiple of 4, a kind is above 2, a register above L+4, a kind 1 `by` not
+ * below p, a table above m+1, or a kind 0 `from` or `by` not 0; the whole list
+ * is tested before its first step is carried out.
+ *
+ * Lent:    steps, any number of numbers; digits, n bytes below s, the most
+ *          significant first; y; bootstraps.
+ * Causes:  1 2 3 4 5, 11, 12.
+ * Writes:  *y: register y after the last step. *bootstraps: the number of
+ *          kind 2 steps carried out.
+ * Cost:    reads the list twice; one multiplication a step.
+ */
+uint8_t celery_run(CELERY_PLAN, const uint16_t *steps, size_t steps_len,
+                   const uint8_t *digits, size_t digits_len,
+                   uint8_t *y, size_t *bootstraps);
+
+/*
+ * The worst norm: the largest sum of squares of weights, each 0 to p-1, over
+ * the link rows, the d rows and all t + 1 rows of beta. It is at most
+ * 4,000,000.
+ *
+ * Lent:    beta, C bytes below p; norm.
+ * Causes:  1 2 3 4 5.
+ * Writes:  *norm.
+ * Cost:    one multiplication for each weight and coefficient.
+ */
+uint8_t celery_worst_norm(CELERY_PLAN, const uint8_t *beta, size_t beta_len,
+                          size_t *norm);
+
+#ifdef __cplusplus
+}
+#endif
+
+#endif

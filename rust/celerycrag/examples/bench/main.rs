@@ -1,0 +1,99 @@
+//! Benchmarks: the library beside the reference, and filing also beside FLINT.
+//! Prints a page in Markdown; `run-bench` writes it to docs/BENCHMARKS.md. With
+//! a number, only tables of at most so many entries are timed.
+//!
+//!     cargo run --release --example bench -- 256
+
+mod calls;
+mod clock;
+mod filing;
+mod flint;
+mod plans;
+mod timing;
+
+use celerycrag::Plan;
+use flint::Flint;
+use timing::shown;
+
+/// The processor's name, where the system tells it.
+fn processor() -> String {
+    let text = std::fs::read_to_string("/proc/cpuinfo").unwrap_or_default();
+    let line = text.lines().find(|line| line.starts_with("model name"));
+    match line.and_then(|line| line.split(':').nth(1)) {
+        Some(name) => name.trim().to_string(),
+        None => "an unknown processor".to_string(),
+    }
+}
+
+/// A line of the table of single calls: library, then reference.
+fn call_line(call: &str, plan: &Plan, least: &[f64]) -> String {
+    let (columns, p) = (plan.columns(), plan.shape().p);
+    let (library, reference) = (least[0], least[1]);
+    format!(
+        "| {call} | {columns} | {p} | {} | {} | {:.1} |",
+        shown(library),
+        shown(reference),
+        reference / library
+    )
+}
+
+const INTRODUCTION: &str = "\
+All figures come from one run of `rust/run-bench`, one thread, built for release. \
+Each is the least of 5 to 50 rounds in which the contenders take turns, in \
+processor time, so that other work on the machine counts little. Plans are \
+random, of radix 2, and the table filed is that of the first link, so that every \
+entry is kept. The reference is `rust/reference`, a naive twin that is made to be \
+read and not to be fast; both check everything they are lent on every call.
+
+## Filing a whole table
+
+One entry at a time through `celery_file`, each call with all its checks: the \
+plan, the whole store, the entry, the value. The store is cleared before the time \
+starts. With 4,096 entries the reference is timed on 32 of them, evenly spaced, \
+each on the store that the library had left there, and the sum is scaled. FLINT's \
+`nmod_mat_rref` reduces the same matrix (rows with their values) in one batch, \
+without checks, its input already in place; its reduced rows are compared with \
+the library's store and are the same. *New* is the number of entries that added a \
+row.
+";
+
+fn main() {
+    let most = std::env::args().nth(1).and_then(|text| text.parse().ok());
+    let most: usize = most.unwrap_or(usize::MAX);
+    let mut flint = Flint::start();
+    println!("# Benchmarks\n\nOn: {}.\n\n{INTRODUCTION}", processor());
+    println!(
+        "| entries | C | p | New | library | an entry | reference | times | FLINT | of FLINT |"
+    );
+    println!("|---|---|---|---|---|---|---|---|---|---|");
+    let mut stores = Vec::new();
+    for case in plans::cases(most) {
+        let (line, store) = filing::line(&case, &mut flint);
+        println!("{line}");
+        stores.push(store);
+    }
+    if flint.is_none() {
+        println!("\nFLINT was not there on this run.");
+    }
+    println!(
+        "\n*Times* is the reference's time by the library's, *of FLINT* the library's by FLINT's."
+    );
+
+    println!("\n## Single calls\n");
+    println!("The store is that of the whole table; a row is the mean over all entries; \
+        the run is that of the written program, its time by its number of steps, its checks among it.\n");
+    println!("| call | C | p | library | reference | times |");
+    println!("|---|---|---|---|---|---|");
+    type Line = fn(&celerycrag::Store) -> String;
+    let lines: [Line; 4] = [
+        calls::test_line,
+        |store| calls::row_line(store.plan()),
+        calls::write_line,
+        calls::run_line,
+    ];
+    for line in lines {
+        for store in &stores {
+            println!("{}", line(store));
+        }
+    }
+}

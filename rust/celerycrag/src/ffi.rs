@@ -1,0 +1,57 @@
+//! The C interface of the proved library, as `include/celerycrag.h` has it.
+//! Nothing compares these lines with the library's source: the random tests
+//! are what stands between a slip here and a host.
+
+/// Declares the calls: each takes the plan's five numbers and three parts, a
+/// part as a pointer and a length, and then its own arguments.
+macro_rules! calls {
+    ($($name:ident($($own:ident: $type:ty),*);)*) => {
+        extern "C" {
+            $(pub(crate) fn $name(
+                p: usize,
+                s: usize,
+                n: usize,
+                m: usize,
+                t: usize,
+                weights: *const u8,
+                weights_len: usize,
+                tables: *const u8,
+                tables_len: usize,
+                d: *const u8,
+                d_len: usize,
+                $($own: $type),*
+            ) -> u8;)*
+        }
+    };
+}
+
+calls! {
+    celery_check();
+    celery_row(entry: usize, row: *mut u8, row_len: usize);
+    celery_test(store: *const u8, store_len: usize);
+    celery_file(
+        store: *mut u8,
+        store_len: usize,
+        entry: usize,
+        value: usize,
+        column: *mut usize
+    );
+    celery_coefficients(store: *const u8, store_len: usize, beta: *mut u8, beta_len: usize);
+    celery_check_writing(beta: *const u8, beta_len: usize, steps: *const u16, steps_len: usize);
+    celery_write(
+        beta: *const u8,
+        beta_len: usize,
+        steps: *mut u16,
+        steps_len: usize,
+        written: *mut usize
+    );
+    celery_run(
+        steps: *const u16,
+        steps_len: usize,
+        digits: *const u8,
+        digits_len: usize,
+        y: *mut u8,
+        bootstraps: *mut usize
+    );
+    celery_worst_norm(beta: *const u8, beta_len: usize, norm: *mut usize);
+}

@@ -1,0 +1,149 @@
+//! One safe function for each call of the C interface.
+//!
+//! They take numbers and slices of any kind: the library tests everything it is
+//! lent, lengths too, and answers the number of a refusal, 0 where it accepts.
+//! A refused call leaves every lent slice and number as it was. The types of
+//! the crate's root are easier to use; these functions are for hosts that keep
+//! their own buffers, and for the tests.
+
+use crate::ffi;
+
+/// A plan as it is lent to a call: its five numbers and three parts, of any
+/// lengths and with any bytes.
+#[derive(Clone, Copy, Debug)]
+pub struct Lent<'a> {
+    /// The prime.
+    pub p: usize,
+    /// The radix of the digits.
+    pub s: usize,
+    /// The number of input digits.
+    pub n: usize,
+    /// The number of links.
+    pub m: usize,
+    /// The number of products.
+    pub t: usize,
+    /// The weights of the links, link after link.
+    pub weights: &'a [u8],
+    /// The tables of the links, p values each.
+    pub tables: &'a [u8],
+    /// The fixed halves of the products, t rows of n + m.
+    pub d: &'a [u8],
+}
+
+/// Calls into the library with the plan first.
+//
+// SAFETY, for each use: every pointer comes from a slice or a reference and
+// goes with that slice's own length, so the memory is there, aligned and not
+// null, and what is lent to be written is lent by `&mut`, so nothing overlaps
+// it. The library reads and writes nothing beyond the lengths, whatever the
+// numbers say; that is proved of it.
+macro_rules! call {
+    ($name:ident, $plan:expr $(, $own:expr)*) => {{
+        let plan = $plan;
+        unsafe {
+            ffi::$name(
+                plan.p,
+                plan.s,
+                plan.n,
+                plan.m,
+                plan.t,
+                plan.weights.as_ptr(),
+                plan.weights.len(),
+                plan.tables.as_ptr(),
+                plan.tables.len(),
+                plan.d.as_ptr(),
+                plan.d.len(),
+                $($own),*
+            )
+        }
+    }};
+}
+
+/// Checks a plan. Causes 1 2 3 4 5.
+pub fn check(plan: Lent) -> u8 {
+    call!(celery_check, plan)
+}
+
+/// Writes the row of an entry to `row`. Causes 1 2 3 4 5 7.
+pub fn row(plan: Lent, entry: usize, row: &mut [u8]) -> u8 {
+    call!(celery_row, plan, entry, row.as_mut_ptr(), row.len())
+}
+
+/// Tests a store for reduced form. Causes 1 2 3 4 5 6.
+pub fn test(plan: Lent, store: &[u8]) -> u8 {
+    call!(celery_test, plan, store.as_ptr(), store.len())
+}
+
+/// Files an entry with its value. `column` becomes the pivot's column where the
+/// entry was new, and C, which is no column, where the store implied it.
+/// Causes 1 2 3 4 5 6 7 8 9.
+pub fn file(plan: Lent, store: &mut [u8], entry: usize, value: usize, column: &mut usize) -> u8 {
+    call!(
+        celery_file,
+        plan,
+        store.as_mut_ptr(),
+        store.len(),
+        entry,
+        value,
+        column
+    )
+}
+
+/// Reads the coefficients off a store into `beta`. Causes 1 2 3 4 5 6.
+pub fn coefficients(plan: Lent, store: &[u8], beta: &mut [u8]) -> u8 {
+    call!(
+        celery_coefficients,
+        plan,
+        store.as_ptr(),
+        store.len(),
+        beta.as_mut_ptr(),
+        beta.len()
+    )
+}
+
+/// Answers what [`write()`] answers on the same arguments, and writes nothing.
+/// Causes 1 2 3 4 5 10.
+pub fn check_writing(plan: Lent, beta: &[u8], steps: &[u16]) -> u8 {
+    call!(
+        celery_check_writing,
+        plan,
+        beta.as_ptr(),
+        beta.len(),
+        steps.as_ptr(),
+        steps.len()
+    )
+}
+
+/// Writes the program of the plan and β to the beginning of `steps`; `written`
+/// becomes 4 times the step count. Causes 1 2 3 4 5 10.
+pub fn write(plan: Lent, beta: &[u8], steps: &mut [u16], written: &mut usize) -> u8 {
+    call!(
+        celery_write,
+        plan,
+        beta.as_ptr(),
+        beta.len(),
+        steps.as_mut_ptr(),
+        steps.len(),
+        written
+    )
+}
+
+/// Runs a list of steps on the digits; `y` and `bootstraps` become what it
+/// answers. Causes 1 2 3 4 5 11 12.
+pub fn run(plan: Lent, steps: &[u16], digits: &[u8], y: &mut u8, bootstraps: &mut usize) -> u8 {
+    call!(
+        celery_run,
+        plan,
+        steps.as_ptr(),
+        steps.len(),
+        digits.as_ptr(),
+        digits.len(),
+        y,
+        bootstraps
+    )
+}
+
+/// The worst norm of the plan and β goes to `norm`. Causes 1 2 3 4 5.
+pub fn worst_norm(plan: Lent, beta: &[u8], norm: &mut usize) -> u8 {
+    call!(celery_worst_norm, plan, beta.as_ptr(), beta.len(), norm)
+}

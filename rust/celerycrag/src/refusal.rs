@@ -1,0 +1,89 @@
+//! Refusals: the number that a call answers, and what it means.
+
+use std::error::Error;
+use std::fmt;
+
+/// Why a call was turned down.
+///
+/// A call tests the causes it can meet in the order of their numbers and
+/// answers the first that it meets. A refused call changes nothing.
+///
+/// ```
+/// use celerycrag::{Plan, Refusal, Shape};
+/// let shape = Shape { p: 9, s: 2, n: 2, m: 0, t: 0 };
+/// let refusal = Plan::new(shape, vec![], vec![], vec![]).unwrap_err();
+/// assert_eq!(refusal, Refusal::NO_PRIME);
+/// assert_eq!(refusal.number(), 1);
+/// assert_eq!(refusal.to_string(), "refused with 1: p is no odd prime from 3 to 251");
+/// ```
+#[derive(Clone, Copy, Debug, PartialEq, Eq, Hash)]
+pub struct Refusal {
+    number: u8,
+}
+
+impl Refusal {
+    /// 1: p is no odd prime from 3 to 251.
+    pub const NO_PRIME: Refusal = Refusal { number: 1 };
+    /// 2: s is below 2 or above p.
+    pub const RADIX: Refusal = Refusal { number: 2 };
+    /// 3: n, L, t, C or s^n is out of range.
+    pub const RANGE: Refusal = Refusal { number: 3 };
+    /// 4: a part has another length than the plan says.
+    pub const LENGTH: Refusal = Refusal { number: 4 };
+    /// 5: a weight, a table value or a given coefficient is not below p.
+    pub const NO_RESIDUE: Refusal = Refusal { number: 5 };
+    /// 6: the store is not in reduced form.
+    pub const DAMAGED: Refusal = Refusal { number: 6 };
+    /// 7: the entry is not below s^n.
+    pub const NO_ENTRY: Refusal = Refusal { number: 7 };
+    /// 8: the value is not below s.
+    pub const NO_VALUE: Refusal = Refusal { number: 8 };
+    /// 9: no coefficients reproduce the entry together with all kept before.
+    pub const CONTRADICTION: Refusal = Refusal { number: 9 };
+    /// 10: the step slice is shorter than 4 times the step count.
+    pub const NO_ROOM: Refusal = Refusal { number: 10 };
+    /// 11: the step list is malformed.
+    pub const STEPS: Refusal = Refusal { number: 11 };
+    /// 12: a digit is not below s.
+    pub const NO_DIGIT: Refusal = Refusal { number: 12 };
+
+    /// The answer of a call as a result: 0 is acceptance.
+    pub(crate) fn unless_0(number: u8) -> Result<(), Refusal> {
+        match number {
+            0 => Ok(()),
+            number => Err(Refusal { number }),
+        }
+    }
+
+    /// The number of the cause, 1 to 12.
+    pub fn number(self) -> u8 {
+        self.number
+    }
+
+    /// What the number means.
+    pub fn sentence(self) -> &'static str {
+        match self.number {
+            1 => "p is no odd prime from 3 to 251",
+            2 => "s is below 2 or above p",
+            3 => "n, L, t, C or s^n is out of range",
+            4 => "a part has another length than the plan says",
+            5 => "a weight, a table value or a given coefficient is not below p",
+            6 => "the store is not in reduced form",
+            7 => "the entry is not below s^n",
+            8 => "the value is not below s",
+            9 => "no coefficients reproduce the entry together with all kept before",
+            10 => "the step slice is shorter than 4 times the step count",
+            11 => "the step list is malformed",
+            12 => "a digit is not below s",
+            _ => "a cause that has no sentence here",
+        }
+    }
+}
+
+impl fmt::Display for Refusal {
+    fn fmt(&self, f: &mut fmt::Formatter) -> fmt::Result {
+        write!(f, "refused with {}: {}", self.number, self.sentence())
+    }
+}
+
+impl Error for Refusal {}

@@ -1,0 +1,90 @@
+//! Stores: the equations of the entries kept, in reduced form.
+
+use crate::{raw, Plan, Refusal};
+
+/// What filing an entry answered; in both cases the entry is kept.
+#[derive(Clone, Copy, Debug, PartialEq, Eq, Hash)]
+pub enum Filed {
+    /// The store has a new row.
+    New {
+        /// The column of its pivot.
+        column: usize,
+    },
+    /// The entries kept before imply this one; the store is as it was.
+    Implied,
+}
+
+/// The store of a plan: C rows of C coefficients and a right-hand side.
+#[derive(Clone, Debug, PartialEq, Eq, Hash)]
+pub struct Store {
+    plan: Plan,
+    bytes: Vec<u8>,
+}
+
+impl Store {
+    /// The empty store, all zeros.
+    pub fn new(plan: &Plan) -> Store {
+        let columns = plan.columns();
+        Store {
+            plan: plan.clone(),
+            bytes: vec![0; columns * (columns + 1)],
+        }
+    }
+
+    /// A store from bytes kept elsewhere, which are tested.
+    ///
+    /// # Errors
+    /// Cause 4 where there are not C rows of C + 1 bytes, 6 where they are not
+    /// in reduced form.
+    pub fn from_bytes(plan: &Plan, bytes: Vec<u8>) -> Result<Store, Refusal> {
+        Refusal::unless_0(raw::test(plan.lent(), &bytes))?;
+        Ok(Store {
+            plan: plan.clone(),
+            bytes,
+        })
+    }
+
+    /// The plan that the store belongs to.
+    pub fn plan(&self) -> &Plan {
+        &self.plan
+    }
+
+    /// The bytes, row after row.
+    pub fn as_bytes(&self) -> &[u8] {
+        &self.bytes
+    }
+
+    /// Gives the bytes away.
+    pub fn into_bytes(self) -> Vec<u8> {
+        self.bytes
+    }
+
+    /// Files an entry with its value.
+    ///
+    /// # Errors
+    /// Cause 7 for the entry, 8 for the value, and 9 exactly when no list of
+    /// coefficients reproduces this entry together with all kept before. A
+    /// refused entry leaves the store as it was.
+    pub fn file(&mut self, entry: usize, value: usize) -> Result<Filed, Refusal> {
+        let mut column = 0;
+        let number = raw::file(self.plan.lent(), &mut self.bytes, entry, value, &mut column);
+        Refusal::unless_0(number)?;
+        if column < self.plan.columns() {
+            Ok(Filed::New { column })
+        } else {
+            Ok(Filed::Implied)
+        }
+    }
+
+    /// The coefficients β read off: they reproduce every entry kept.
+    ///
+    /// # Errors
+    /// None while the bytes are those of a store made here: the library tests
+    /// them again, and only memory that was damaged meanwhile is refused (6).
+    pub fn coefficients(&self) -> Result<Vec<u8>, Refusal> {
+        let mut beta = vec![0; self.plan.columns()];
+        let number = raw::coefficients(self.plan.lent(), &self.bytes, &mut beta);
+        Refusal::unless_0(number)?;
+        Ok(beta)
+    }
+}

@@ -1,0 +1,216 @@
+//! Filing against brute force: for tiny plans every β is enumerated, and an
+//! entry is refused with 9 exactly when none fits it together with all kept
+//! before. Nothing here comes from the reference.
+
+mod common;
+use celerycrag::raw;
+use common::plans::Owned;
+use common::random::{cases, Random};
+
+/// Every list of C residues modulo p.
+fn every_beta(plan: &Owned) -> Vec<Vec<u8>> {
+    let (p, columns) = (plan.p, plan.columns() as u32);
+    let beta = |number: usize| {
+        (0..columns)
+            .map(|j| (number / p.pow(j) % p) as u8)
+            .collect()
+    };
+    (0..p.pow(columns)).map(beta).collect()
+}
+
+/// The variables of an entry by the definition, and from them its row.
+fn row(plan: &Owned, entry: usize) -> Vec<u8> {
+    let mut variables = plan.digits(entry);
+    let mut weights = plan.weights.as_slice();
+    for table in plan.tables.chunks(plan.p) {
+        let (own, rest) = weights.split_at(variables.len());
+        variables.push(table[plan.product(own, &variables) as usize]);
+        weights = rest;
+    }
+    let mut row = Vec::new();
+    for d in plan.d.chunks(variables.len()) {
+        let sum = plan.product(d, &variables);
+        row.extend(variables.iter().map(|&x| plan.product(&[x], &[sum])));
+    }
+    row.extend(variables);
+    row
+}
+
+/// Whether β satisfies every row of the store.
+fn satisfies(plan: &Owned, store: &[u8], beta: &[u8]) -> bool {
+    let columns = plan.columns();
+    store
+        .chunks(columns + 1)
+        .all(|row| plan.product(&row[..columns], beta) == row[columns])
+}
+
+/// Files the list on an empty store and checks each answer, each store and the
+/// program at the end against the β that still fit.
+fn check_list(plan: &Owned, list: &[(usize, usize)]) {
+    let (columns, width) = (plan.columns(), plan.columns() + 1);
+    let all = every_beta(plan);
+    let mut fitting: Vec<&Vec<u8>> = all.iter().collect();
+    let mut kept = Vec::new();
+    let mut store = plan.empty_store();
+    for &(entry, value) in list {
+        let before = store.clone();
+        let row = row(plan, entry);
+        let mut lent_row = vec![0; columns];
+        assert_eq!(raw::row(plan.lent(), entry, &mut lent_row), 0);
+        assert_eq!(lent_row, row);
+
+        let fits = |beta: &&Vec<u8>| plan.product(&row, beta) as usize == value;
+        let both: Vec<&Vec<u8>> = fitting.iter().copied().filter(fits).collect();
+        let mut column = 999;
+        let answer = raw::file(plan.lent(), &mut store, entry, value, &mut column);
+        if both.is_empty() {
+            assert_eq!((answer, column), (9, 999));
+            assert_eq!(store, before);
+        } else {
+            assert_eq!(answer, 0);
+            assert_eq!(column == columns, both.len() == fitting.len());
+            if column == columns {
+                assert_eq!(store, before);
+            } else {
+                assert!(before[column * width..][..width].iter().all(|&x| x == 0));
+                assert_eq!(store[column * width + column], 1);
+            }
+            kept.push((entry, value));
+            fitting = both;
+        }
+        assert_eq!(raw::test(plan.lent(), &store), 0);
+        let satisfying = all.iter().filter(|beta| satisfies(plan, &store, beta));
+        assert!(satisfying.eq(fitting.iter().copied()));
+    }
+
+    let mut beta = vec![255; columns];
+    assert_eq!(raw::coefficients(plan.lent(), &store, &mut beta), 0);
+    assert!(fitting.contains(&&beta));
+    let mut steps = vec![0; 4 * plan.step_count()];
+    let mut written = 0;
+    assert_eq!(raw::write(plan.lent(), &beta, &mut steps, &mut written), 0);
+    for entry in 0..plan.entries() {
+        let (mut y, mut bootstraps) = (99, 99);
+        let (steps, digits) = (&steps[..written], plan.digits(entry));
+        let answer = raw::run(plan.lent(), steps, &digits, &mut y, &mut bootstraps);
+        assert_eq!((answer, bootstraps), (0, plan.bootstraps()));
+        assert_eq!(y, plan.product(&row(plan, entry), &beta));
+        for &(i, v) in &kept {
+            assert!(i != entry || v == y as usize);
+        }
+    }
+
+    // The reduced form does not depend on the order of filing.
+    let mut backwards = plan.empty_store();
+    for &(entry, value) in kept.iter().rev() {
+        let answer = raw::file(plan.lent(), &mut backwards, entry, value, &mut 0);
+        assert_eq!(answer, 0);
+    }
+    assert_eq!(backwards, store);
+}
+
+/// Shapes with at most 3^6 or 5^4 lists of coefficients.
+const TINY: [[usize; 5]; 18] = [
+    [3, 2, 2, 0, 1],
+    [3, 2, 1, 1, 1],
+    [3, 3, 1, 1, 1],
+    [3, 2, 2, 1, 0],
+    [3, 3, 2, 1, 0],
+    [3, 2, 1, 2, 1],
+    [3, 2, 2, 1, 1],
+    [3, 3, 2, 0, 1],
+    [3, 2, 2, 0, 2],
+    [3, 3, 1, 0, 3],
+    [3, 2, 3, 2, 0],
+    [3, 3, 1, 4, 0],
+    [5, 4, 2, 0, 1],
+    [5, 5, 1, 1, 1],
+    [5, 3, 2, 2, 0],
+    [7, 6, 1, 2, 0],
+    [11, 2, 1, 0, 1],
+    [23, 5, 2, 0, 0],
+];
+
+fn list(random: &mut Random, plan: &Owned, length: usize) -> Vec<(usize, usize)> {
+    (0..length)
+        .map(|_| (random.below(plan.entries()), random.below(plan.s)))
+        .collect()
+}
+
+#[test]
+fn random_tiny_plans() {
+    cases("tiny plans", 1_000, |random| {
+        let shape = random.pick(&TINY);
+        let plan = Owned::random(random, shape);
+        let list = list(random, &plan, 10);
+        check_list(&plan, &list);
+    });
+}
+
+#[test]
+fn every_list_of_three_filings_of_xor() {
+    let pairs: Vec<(usize, usize)> = (0..4).flat_map(|i| [(i, 0), (i, 1)]).collect();
+    check_list(&Owned::xor(), &[]);
+    for &first in &pairs {
+        for &second in &pairs {
+            for &third in &pairs {
+                check_list(&Owned::xor(), &[first, second, third]);
+            }
+        }
+    }
+}
+
+#[test]
+fn every_table_of_two_bits_under_every_d() {
+    for d in 0..9 {
+        let plan = Owned {
+            d: vec![d / 3, d % 3],
+            ..Owned::xor()
+        };
+        for table in 0..16 {
+            let list: Vec<(usize, usize)> = (0..4).map(|i| (i, table >> i & 1)).collect();
+            check_list(&plan, &list);
+        }
+    }
+}
+
+#[test]
+fn every_plan_of_one_digit_and_one_link() {
+    // p = 3, s = 2: all weights, all link tables, all tables of two entries.
+    for weight in 0..3 {
+        for number in 0..27 {
+            let plan = Owned {
+                weights: vec![weight],
+                tables: vec![number / 9, number / 3 % 3, number % 3],
+                ..Owned::zeros([3, 2, 1, 1, 0])
+            };
+            for table in 0..4 {
+                check_list(&plan, &[(0, table & 1), (1, table >> 1), (0, 1), (1, 1)]);
+            }
+        }
+    }
+}
+
+/// Tries every store of two columns and bytes 0 to 3 under p = 3: the reduced
+/// ones are as many as the plane has points, lines and itself.
+#[test]
+fn every_store_of_two_columns() {
+    let plan = Owned::zeros([3, 3, 2, 0, 0]);
+    let all = every_beta(&plan);
+    let mut sets = Vec::new();
+    for number in 0..4usize.pow(6) {
+        let store: Vec<u8> = (0..6).map(|j| (number >> (2 * j) & 3) as u8).collect();
+        match raw::test(plan.lent(), &store) {
+            0 => {
+                let fits = |beta: &Vec<u8>| satisfies(&plan, &store, beta);
+                sets.push(all.iter().map(fits).collect::<Vec<bool>>());
+            }
+            answer => assert_eq!(answer, 6),
+        }
+    }
+    assert_eq!(sets.len(), 9 + 12 + 1);
+    assert!(sets.iter().all(|set| set.contains(&true)));
+    sets.sort();
+    sets.dedup();
+    assert_eq!(sets.len(), 9 + 12 + 1);
+}

@@ -1,0 +1,346 @@
+//! Random lots for the nine calls, and what can be wrong with them.
+
+use super::plans::{reduced, residues, shape, Owned};
+use super::random::Random;
+use super::twins::Lot;
+use celerycrag::raw;
+
+/// Numbers at and beside the limits, and where narrower types end.
+const EDGES: [usize; 42] = [
+    0,
+    1,
+    2,
+    3,
+    4,
+    9,
+    12,
+    13,
+    16,
+    31,
+    32,
+    33,
+    63,
+    64,
+    65,
+    249,
+    250,
+    251,
+    252,
+    253,
+    255,
+    256,
+    257,
+    1_023,
+    1_024,
+    1_025,
+    4_095,
+    4_096,
+    4_097,
+    (1 << 16) - 1,
+    1 << 16,
+    (1 << 16) + 3,
+    1 << 31,
+    (1 << 32) - 1,
+    1 << 32,
+    (1 << 32) + 3,
+    (1 << 58) - 1,
+    1 << 63,
+    (1 << 63) + 3,
+    usize::MAX - 2,
+    usize::MAX - 1,
+    usize::MAX,
+];
+
+/// A number that is likely wrong in place of this one: an edge, a neighbour,
+/// or one that a narrower type would take for the right one.
+fn another(random: &mut Random, right: usize) -> usize {
+    match random.below(4) {
+        0 => right.wrapping_add(1),
+        1 => right.wrapping_sub(1),
+        2 => right.wrapping_add(1 << random.pick(&[8, 16, 32, 48, 63])),
+        _ => random.pick(&EDGES),
+    }
+}
+
+/// A lot with nothing wrong, of a plan of at most so many columns.
+pub fn lot(random: &mut Random, most_columns: usize) -> Lot {
+    let shape = shape(random, most_columns);
+    lot_of(random, shape)
+}
+
+/// A lot with nothing wrong, of a random plan of this shape.
+pub fn lot_of(random: &mut Random, shape: [usize; 5]) -> Lot {
+    let plan = Owned::random(random, shape);
+    let store = match random.below(4) {
+        0 => plan.empty_store(),
+        1 => filed(random, &plan),
+        _ => {
+            let one_row_in = random.pick(&[1, 2, 2, 5]);
+            reduced(random, &plan, one_row_in)
+        }
+    };
+    let beta = residues(random, plan.columns(), plan.p);
+    let slack = random.pick(&[0, 0, 1, 4, 50]);
+    let room: Vec<u16> = (0..4 * plan.step_count() + slack)
+        .map(|_| random.next() as u16)
+        .collect();
+    let steps = if random.one_in(2) {
+        written(&plan, &beta)
+    } else {
+        let count = random.below(60);
+        well_formed(random, &plan, count)
+    };
+    Lot {
+        entry: random.below(plan.entries()),
+        value: random.below(plan.s),
+        row: random.bytes(plan.columns(), 256),
+        store,
+        beta,
+        room,
+        steps,
+        digits: random.bytes(plan.n, plan.s),
+        plan,
+    }
+}
+
+/// The store after a few filings.
+fn filed(random: &mut Random, plan: &Owned) -> Vec<u8> {
+    let mut store = plan.empty_store();
+    for _ in 0..random.below(12) {
+        let (entry, value) = (random.below(plan.entries()), random.below(plan.s));
+        raw::file(plan.lent(), &mut store, entry, value, &mut 0);
+    }
+    store
+}
+
+/// The program of a plan and β.
+fn written(plan: &Owned, beta: &[u8]) -> Vec<u16> {
+    let mut steps = vec![0; 4 * plan.step_count()];
+    raw::write(plan.lent(), beta, &mut steps, &mut 0);
+    steps
+}
+
+/// A foreign list: so many steps, each in order, of any kind.
+pub fn well_formed(random: &mut Random, plan: &Owned, count: usize) -> Vec<u16> {
+    let registers = plan.variables() + 5;
+    let mut steps = Vec::new();
+    for _ in 0..count {
+        let kind = random.below(3);
+        let (to, from) = (random.below(registers), random.below(registers));
+        let step = match kind {
+            0 => [0, to, 0, 0],
+            1 => [1, to, from, random.below(plan.p)],
+            _ => [2, to, from, random.below(plan.m + 2)],
+        };
+        steps.extend(step.map(|number| number as u16));
+    }
+    steps
+}
+
+/// Makes one thing wrong, or at least likely to be.
+pub fn fault(random: &mut Random, lot: &mut Lot) {
+    match random.below(12) {
+        0 => number(random, &mut lot.plan),
+        1 => wrap(random, &mut lot.plan),
+        2 | 3 => length(random, lot),
+        4 | 5 => large_byte(random, lot),
+        6 | 7 => damage(random, lot),
+        8 => lot.entry = another(random, lot.plan.s.saturating_pow(lot.plan.n.min(99) as u32)),
+        9 => lot.value = another(random, lot.plan.s),
+        10 => bad_step(random, lot),
+        _ => bad_digit(random, lot),
+    }
+}
+
+/// Another number in place of one of the plan's five.
+fn number(random: &mut Random, plan: &mut Owned) {
+    let numbers = [
+        &mut plan.p,
+        &mut plan.s,
+        &mut plan.n,
+        &mut plan.m,
+        &mut plan.t,
+    ];
+    let place = random.below(5);
+    for number in numbers.into_iter().skip(place).take(1) {
+        *number = another(random, *number);
+    }
+}
+
+/// Numbers whose sum or product only looks right where it wraps around.
+fn wrap(random: &mut Random, plan: &mut Owned) {
+    let sum = plan.n.wrapping_add(plan.m);
+    match random.below(3) {
+        0 => {
+            plan.n = plan.n.wrapping_add(1 << random.within(32, 63));
+            plan.m = sum.wrapping_sub(plan.n);
+        }
+        1 => {
+            plan.m = (random.next() as usize) | 1 << 63;
+            plan.n = sum.wrapping_sub(plan.m);
+        }
+        _ => plan.t = plan.t.wrapping_add(1 << random.within(32, 63)),
+    }
+}
+
+/// A part in another length. The step slices belong to causes 10 and 11.
+fn length(random: &mut Random, lot: &mut Lot) {
+    match random.below(9) {
+        0 => relength(random, &mut lot.plan.weights),
+        1 => relength(random, &mut lot.plan.tables),
+        2 => relength(random, &mut lot.plan.d),
+        3 => relength(random, &mut lot.row),
+        4 => relength(random, &mut lot.store),
+        5 => relength(random, &mut lot.beta),
+        6 => relength(random, &mut lot.digits),
+        7 => relength(random, &mut lot.room),
+        _ => relength(random, &mut lot.steps),
+    }
+}
+
+fn relength<T: Clone + Default>(random: &mut Random, part: &mut Vec<T>) {
+    let length = match random.below(6) {
+        0 => 0,
+        1 => part.len() + 1,
+        2 => part.len().saturating_sub(1),
+        3 => 2 * part.len(),
+        4 => part.len() + random.below(70),
+        _ => random.below(part.len() + 1),
+    };
+    part.resize(length, T::default());
+}
+
+/// A byte that is no residue, in a weight, table value or β.
+fn large_byte(random: &mut Random, lot: &mut Lot) {
+    let p = lot.plan.p;
+    let part = match random.below(4) {
+        0 => &mut lot.plan.weights,
+        1 => &mut lot.plan.tables,
+        2 => &mut lot.plan.d,
+        _ => &mut lot.beta,
+    };
+    if !part.is_empty() {
+        let place = random.below(part.len());
+        part[place] = random.pick(&[p, p + 1, 128 | p, 255]).min(255) as u8;
+    }
+}
+
+/// Damages the store in one of the ways that reduced form forbids; where the
+/// store has no row for it, and in some ways anyway, it may still be reduced.
+fn damage(random: &mut Random, lot: &mut Lot) {
+    let p = lot.plan.p;
+    let width = lot.plan.columns_if_small() + 1;
+    let columns = width - 1;
+    let store = &mut lot.store;
+    if store.is_empty() || store.len() != columns * width || p < 3 {
+        return;
+    }
+    let leads: Vec<usize> = (0..columns).filter(|q| store[q * width + q] != 0).collect();
+    let zeros: Vec<usize> = (0..columns).filter(|q| store[q * width + q] == 0).collect();
+    let led = (!leads.is_empty()).then(|| random.pick(&leads));
+    let zero = (!zeros.is_empty()).then(|| random.pick(&zeros));
+    let nonzero = random.within(1, p.min(256) - 1) as u8;
+    let any = random.below(columns);
+    match (random.below(13), led, zero) {
+        // A byte not below p, among the coefficients and at the right-hand side.
+        (0, ..) => store[any * width + random.below(columns)] = p.min(255) as u8,
+        (1, ..) => store[any * width + columns] = random.pick(&[p.min(255), 255]) as u8,
+        // A lead that is not 1.
+        (2, Some(q), _) => store[q * width + q] = random.within(2, p.min(256) - 1) as u8,
+        // A right-hand side without coefficients.
+        (3, _, Some(q)) => store[q * width + columns] = nonzero,
+        // A coefficient left of the lead's place, and right of it.
+        (4, Some(q), _) if q > 0 => store[q * width + random.below(q)] = nonzero,
+        (5, _, Some(q)) if q + 1 < columns => {
+            store[q * width + random.within(q + 1, columns - 1)] = nonzero
+        }
+        // The lead lost.
+        (6, Some(q), _) => store[q * width + q] = 0,
+        // A second number in a pivot's column.
+        (7, Some(q), _) if any != q => store[any * width + q] = nonzero,
+        // A row in the wrong place, or there twice.
+        (8, Some(q), _) => {
+            for j in 0..width {
+                store.swap(q * width + j, any * width + j);
+            }
+        }
+        (9, Some(q), _) => store.copy_within(q * width..(q + 1) * width, any * width),
+        // Anything at all.
+        (10, ..) => *store = random.bytes(columns * width, p.min(256)),
+        (11, ..) => *store = random.bytes(columns * width, 256),
+        _ => store[any * width + random.below(width)] = random.below(p.min(256)) as u8,
+    }
+}
+
+/// A step list with one fault, which need not be one for every step.
+fn bad_step(random: &mut Random, lot: &mut Lot) {
+    let plan = &lot.plan;
+    let steps = &mut lot.steps;
+    if steps.len() < 4 {
+        steps.resize(random.below(4), 0);
+        return;
+    }
+    let step = 4 * random.below(steps.len() / 4);
+    let last = plan.n.wrapping_add(plan.m).wrapping_add(4) as u16;
+    let after_last = random.pick(&[last.wrapping_add(1), last | 256, u16::MAX]);
+    match random.below(8) {
+        0 => steps[step] = random.pick(&[3, 4, 256, 257, 258, u16::MAX]),
+        1 => steps[step + 1] = after_last,
+        2 => steps[step + 2] = after_last,
+        3 => steps[step + 3] = random.pick(&[plan.p as u16, plan.p as u16 + 1, 256, u16::MAX]),
+        4 => steps[step + 3] = random.pick(&[plan.m as u16, 0]).wrapping_add(2),
+        5 => steps[step + 2] = 1,
+        6 => steps.truncate(step + random.below(4)),
+        _ => steps[step + random.below(4)] = random.next() as u16,
+    }
+}
+
+/// A digit that is not below s, though perhaps a residue.
+fn bad_digit(random: &mut Random, lot: &mut Lot) {
+    if lot.digits.is_empty() {
+        return;
+    }
+    let place = random.below(lot.digits.len());
+    let digit = random.pick(&[lot.plan.s, lot.plan.p, lot.plan.p.wrapping_sub(1), 255]);
+    lot.digits[place] = digit.min(255) as u8;
+}
+
+/// Numbers and bytes without any plan behind them.
+pub fn noise(random: &mut Random) -> Lot {
+    let mut lot = lot(random, 12);
+    if random.one_in(2) {
+        let any = |random: &mut Random, count: usize| {
+            let (count, k) = (random.below(count), random.pick(&[2, 3, 8, 256]));
+            random.bytes(count, k)
+        };
+        lot.plan.weights = any(random, 5);
+        lot.plan.tables = any(random, 12);
+        lot.plan.d = any(random, 9);
+        lot.row = any(random, 13);
+        lot.beta = any(random, 13);
+        lot.digits = any(random, 4);
+        lot.store = any(random, 160);
+    }
+    let numbers = [
+        &mut lot.plan.p,
+        &mut lot.plan.s,
+        &mut lot.plan.n,
+        &mut lot.plan.m,
+        &mut lot.plan.t,
+        &mut lot.entry,
+        &mut lot.value,
+    ];
+    for number in numbers {
+        match random.below(6) {
+            0 => *number = random.pick(&EDGES),
+            1 => *number = random.below(8),
+            _ => {}
+        }
+    }
+    let below = random.pick(&[3, 8, 65_536]);
+    for steps in [&mut lot.steps, &mut lot.room] {
+        let count = random.below(5) * 4 + random.pick(&[0, 0, 0, 1]);
+        *steps = (0..count).map(|_| random.below(below) as u16).collect();
+    }
+    lot
+}

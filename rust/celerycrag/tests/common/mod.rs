@@ -1,0 +1,9 @@
+//! What the tests share: random numbers, plans with parts of their own, and
+//! the calls made twice, on the library and on the reference.
+#![allow(dead_code)]
+
+pub mod faults;
+pub mod plans;
+pub mod random;
+pub mod tally;
+pub mod twins;

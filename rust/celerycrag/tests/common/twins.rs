@@ -1,0 +1,205 @@
+//! Every call made twice on the same arguments, on the library and on the
+//! reference: the answers and all bytes have to be the same, a refused call
+//! has to leave everything as it was, and no call may write beside its slice.
+
+use super::plans::Owned;
+use super::tally::Tally;
+use celerycrag::raw;
+use reference::{Filed, Ran};
+use std::fmt::Debug;
+
+/// What a single number that is lent holds before the call; no call answers it.
+const OLD: usize = 0x5EED_5EED_5EED_5EED;
+/// The elements beside a slice that is lent to be written.
+const MARGIN: usize = 37;
+
+/// Everything that the nine calls take.
+#[derive(Clone, Debug)]
+pub struct Lot {
+    pub plan: Owned,
+    pub entry: usize,
+    pub value: usize,
+    pub row: Vec<u8>,
+    pub store: Vec<u8>,
+    pub beta: Vec<u8>,
+    /// What the writer is lent.
+    pub room: Vec<u16>,
+    /// What is run.
+    pub steps: Vec<u16>,
+    pub digits: Vec<u8>,
+}
+
+/// Calls the reference with the plan's numbers and parts, then the call's own.
+macro_rules! by_reference {
+    ($name:ident, $plan:expr $(, $own:expr)*) => {{
+        let plan: &Owned = $plan;
+        reference::$name(
+            plan.p as u64, plan.s as u64, plan.n as u64, plan.m as u64, plan.t as u64,
+            &plan.weights, &plan.tables, &plan.d $(, $own)*
+        )
+    }};
+}
+
+/// Lends a copy of the slice with a margin on each side; the copy afterwards,
+/// and what the call answered.
+fn fenced<T, A>(slice: &[T], mark: T, call: impl FnOnce(&mut [T]) -> A) -> (Vec<T>, A)
+where
+    T: Copy + PartialEq + Debug,
+{
+    let fence = [mark; MARGIN];
+    let mut all = [&fence, slice, &fence].concat();
+    let end = MARGIN + slice.len();
+    let answer = call(&mut all[MARGIN..end]);
+    assert_eq!(all[..MARGIN], fence, "written before the slice");
+    assert_eq!(all[end..], fence, "written behind the slice");
+    (all[MARGIN..end].to_vec(), answer)
+}
+
+/// What both answered, and that the library answered the same.
+fn agreed(call: &'static str, library: u8, reference: u32, tally: &mut Tally) -> u8 {
+    assert_eq!(library as u32, reference, "{call}: library, then reference");
+    tally.add(call, library);
+    library
+}
+
+pub fn check(plan: &Owned, tally: &mut Tally) -> u8 {
+    let expected = by_reference!(check_plan, plan);
+    agreed("check", raw::check(plan.lent()), expected, tally)
+}
+
+/// Makes the call on `row`, and leaves there what both made of it.
+pub fn row(plan: &Owned, entry: usize, row: &mut Vec<u8>, tally: &mut Tally) -> u8 {
+    let mut expected = row.clone();
+    let number = by_reference!(row, plan, entry as u64, &mut expected);
+    let (after, answer) = fenced(row, 0xA5, |row| raw::row(plan.lent(), entry, row));
+    assert_eq!(after, expected, "row");
+    assert!(answer == 0 || after == *row, "a refused row was written");
+    *row = after;
+    agreed("row", answer, number, tally)
+}
+
+pub fn test(plan: &Owned, store: &[u8], tally: &mut Tally) -> u8 {
+    let expected = by_reference!(test_store, plan, store);
+    agreed("test", raw::test(plan.lent(), store), expected, tally)
+}
+
+/// Files in `store`, and leaves there what both made of it. An accepted filing
+/// tells its column, C where the entry was implied.
+pub fn file(
+    plan: &Owned,
+    store: &mut Vec<u8>,
+    entry: usize,
+    value: usize,
+    tally: &mut Tally,
+) -> Result<usize, u8> {
+    let mut expected = store.clone();
+    let filed = by_reference!(file, plan, &mut expected, entry as u64, value as u64);
+    let (number, expected_column) = match filed {
+        Filed::New(column) => (0, column),
+        Filed::Implied => (0, plan.columns()),
+        Filed::Refused(number) => (number, OLD),
+    };
+    let mut column = OLD;
+    let (after, answer) = fenced(store, 0xA5, |store| {
+        raw::file(plan.lent(), store, entry, value, &mut column)
+    });
+    agreed("file", answer, number, tally);
+    assert_eq!(column, expected_column, "the column of a filing");
+    assert!(after == expected, "the store after a filing");
+    let kept_as_it_was = answer != 0 || column == plan.columns();
+    assert!(!kept_as_it_was || after == *store, "a store was written");
+    *store = after;
+    match answer {
+        0 => Ok(column),
+        number => Err(number),
+    }
+}
+
+/// Makes the call on `beta`, and leaves there what both made of it.
+pub fn coefficients(plan: &Owned, store: &[u8], beta: &mut Vec<u8>, tally: &mut Tally) -> u8 {
+    let mut expected = beta.clone();
+    let number = by_reference!(coefficients, plan, store, &mut expected);
+    let (after, answer) = fenced(beta, 0xA5, |beta| {
+        raw::coefficients(plan.lent(), store, beta)
+    });
+    agreed("coefficients", answer, number, tally);
+    assert_eq!(after, expected, "the coefficients");
+    assert!(answer == 0 || after == *beta, "a refused β was written");
+    *beta = after;
+    answer
+}
+
+/// Makes the checking call and the writing one, which have to agree. An
+/// accepted writing gives the numbers written.
+pub fn write(plan: &Owned, beta: &[u8], room: &[u16], tally: &mut Tally) -> Result<Vec<u16>, u8> {
+    let number = by_reference!(check_writing, plan, beta, room);
+    let checked = raw::check_writing(plan.lent(), beta, room);
+    agreed("check_writing", checked, number, tally);
+
+    let mut expected = room.to_vec();
+    let expected_part = by_reference!(write, plan, beta, &mut expected).len();
+    let mut written = OLD;
+    let (after, answer) = fenced(room, 0xA5A5, |room| {
+        raw::write(plan.lent(), beta, room, &mut written)
+    });
+    agreed("write", answer, number, tally);
+    assert!(after == expected, "the steps after a writing");
+    if answer != 0 {
+        assert_eq!(written, OLD, "a refused writing told a length");
+        assert!(after == room, "a refused writing wrote");
+        return Err(answer);
+    }
+    assert_eq!(written, expected_part, "the length written");
+    assert!(
+        after[written..] == room[written..],
+        "written behind the program"
+    );
+    Ok(after[..written].to_vec())
+}
+
+pub fn run(plan: &Owned, steps: &[u16], digits: &[u8], tally: &mut Tally) -> Result<Ran, u8> {
+    let expected = by_reference!(run, plan, steps, digits);
+    let (mut y, mut bootstraps) = (0xA5, OLD);
+    let answer = raw::run(plan.lent(), steps, digits, &mut y, &mut bootstraps);
+    agreed("run", answer, expected.err().unwrap_or(0), tally);
+    match expected {
+        Ok(ran) => {
+            assert_eq!((y, bootstraps as u64), (ran.y, ran.bootstraps), "a run");
+            Ok(ran)
+        }
+        Err(_) => {
+            assert_eq!((y, bootstraps), (0xA5, OLD), "a refused run told something");
+            Err(answer)
+        }
+    }
+}
+
+pub fn worst_norm(plan: &Owned, beta: &[u8], tally: &mut Tally) -> Result<usize, u8> {
+    let expected = by_reference!(worst_norm, plan, beta);
+    let mut norm = OLD;
+    let answer = raw::worst_norm(plan.lent(), beta, &mut norm);
+    agreed("worst_norm", answer, expected.err().unwrap_or(0), tally);
+    match expected {
+        Ok(worst) => {
+            assert_eq!(norm as u64, worst, "the worst norm");
+            Ok(norm)
+        }
+        Err(_) => {
+            assert_eq!(norm, OLD, "a refused worst norm told one");
+            Err(answer)
+        }
+    }
+}
+
+/// All nine calls on one lot, which stays as it is.
+pub fn all(lot: &Lot, tally: &mut Tally) {
+    let plan = &lot.plan;
+    check(plan, tally);
+    row(plan, lot.entry, &mut lot.row.clone(), tally);
+    test(plan, &lot.store, tally);
+    let _ = file(plan, &mut lot.store.clone(), lot.entry, lot.value, tally);
+    coefficients(plan, &lot.store, &mut lot.beta.clone(), tally);
+    let _ = write(plan, &lot.beta, &lot.room, tally);
+    let _ = run(plan, &lot.steps, &lot.digits, tally);
+    let _ = worst_norm(plan, &lot.beta, tally);
+}

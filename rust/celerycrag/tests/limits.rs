@@ -1,0 +1,203 @@
+//! The library against the reference on the largest shapes that a plan may
+//! have, and on those just beyond. The reference is slow there, so the cases
+//! are few.
+
+mod common;
+use common::faults::{fault, lot_of};
+use common::plans::{primes, reduced, Owned};
+use common::random::{cases, Random};
+use common::tally::Tally;
+use common::twins::{self, Lot};
+
+/// Shapes p s n m t at the limits of L, t, C and s^n.
+const LARGEST: [[usize; 5]; 12] = [
+    [251, 2, 12, 52, 15],
+    [3, 2, 12, 52, 15],
+    [17, 16, 3, 61, 15],
+    [251, 251, 1, 63, 15],
+    [127, 64, 2, 62, 15],
+    [5, 2, 1, 30, 32],
+    [241, 8, 4, 27, 32],
+    [3, 3, 7, 57, 0],
+    [251, 2, 1, 0, 32],
+    [67, 64, 2, 0, 0],
+    [11, 8, 4, 36, 24],
+    [31, 2, 12, 20, 31],
+];
+
+/// All nine calls on a lot of this shape, a few more filings, and a program.
+fn large(random: &mut Random, shape: [usize; 5], tally: &mut Tally) {
+    let mut lot = lot_of(random, shape);
+    let plan = lot.plan.clone();
+    assert_eq!(twins::check(&plan, tally), 0, "{shape:?}");
+    twins::all(&lot, tally);
+
+    let mut kept = Vec::new();
+    let mut store = plan.empty_store();
+    for _ in 0..3 {
+        let (entry, value) = (random.below(plan.entries()), random.below(plan.s));
+        if twins::file(&plan, &mut store, entry, value, tally).is_ok() {
+            kept.push((entry, value));
+        }
+    }
+    let mut beta = vec![255; plan.columns()];
+    assert_eq!(twins::coefficients(&plan, &store, &mut beta, tally), 0);
+    let steps = twins::write(&plan, &beta, &lot.room, tally).expect("an accepted writing");
+    for (entry, value) in kept {
+        let ran = twins::run(&plan, &steps, &plan.digits(entry), tally).expect("an accepted run");
+        assert_eq!(
+            (ran.y as usize, ran.bootstraps),
+            (value, plan.bootstraps() as u64)
+        );
+    }
+
+    // With every other row led, an equation and a clearing have most to do.
+    lot.store = reduced(random, &plan, 2);
+    let _ = twins::file(&plan, &mut lot.store, lot.entry, lot.value, tally);
+    for _ in 0..2 {
+        let mut wrong = lot.clone();
+        fault(random, &mut wrong);
+        twins::all(&wrong, tally);
+    }
+}
+
+#[test]
+fn the_largest_shapes() {
+    let mut tally = Tally::default();
+    cases("the largest shapes", 3, |random| {
+        let shape = random.pick(&LARGEST);
+        large(random, shape, &mut tally);
+    });
+}
+
+#[test]
+fn c_1024() {
+    let mut tally = Tally::default();
+    let mut random = Random::new(1, 0);
+    for shape in [LARGEST[0], LARGEST[1]] {
+        large(&mut random, shape, &mut tally);
+    }
+}
+
+/// The largest numbers that the sums can meet: all bytes p - 1.
+#[test]
+fn nothing_overflows() {
+    let mut tally = Tally::default();
+    for shape in [
+        [251, 2, 12, 52, 15],
+        [251, 251, 1, 30, 32],
+        [3, 2, 12, 52, 15],
+    ] {
+        let mut plan = Owned::zeros(shape);
+        let most = (plan.p - 1) as u8;
+        for part in [&mut plan.weights, &mut plan.tables, &mut plan.d] {
+            part.fill(most);
+        }
+        let beta = vec![most; plan.columns()];
+        let last = plan.entries() - 1;
+        // Every other row led, and all that reduced form leaves free at p - 1.
+        let (columns, width) = (plan.columns(), plan.columns() + 1);
+        let mut store = plan.empty_store();
+        for q in (0..columns).step_by(2) {
+            store[q * width + q] = 1;
+            for j in (q + 1..=columns).filter(|j| j % 2 == 1 || *j == columns) {
+                store[q * width + j] = most;
+            }
+        }
+        let lot = Lot {
+            entry: last,
+            value: plan.s - 1,
+            row: vec![0; columns],
+            store,
+            beta,
+            room: vec![7; 4 * plan.step_count()],
+            steps: vec![],
+            digits: plan.digits(last),
+            plan,
+        };
+        twins::all(&lot, &mut tally);
+        let plan = &lot.plan;
+        let steps = twins::write(plan, &lot.beta, &lot.room, &mut tally).expect("accepted");
+        assert!(twins::run(plan, &steps, &lot.digits, &mut tally).is_ok());
+        assert_eq!(
+            twins::worst_norm(plan, &lot.beta, &mut tally),
+            Ok((plan.variables()) * (plan.p - 1) * (plan.p - 1))
+        );
+    }
+}
+
+/// Every prime, every residue: the reduction and the inverse of each.
+#[test]
+fn every_residue_of_every_prime() {
+    let mut tally = Tally::default();
+    for p in primes() {
+        // One digit of radix p: x_0 is any residue, and the row of entry x with
+        // value v asks for the inverse of x.
+        let plan = Owned::zeros([p, p.min(64), 1, 1, 0]);
+        for x in 0..p {
+            let mut plan = plan.clone();
+            // The link's table is x everywhere, so that column 1 holds x.
+            plan.tables.fill(x as u8);
+            let mut store = plan.empty_store();
+            for (entry, value) in [(0, 1), (1, 0)] {
+                let _ = twins::file(&plan, &mut store, entry, value, &mut tally);
+            }
+            let mut beta = vec![0; 2];
+            assert_eq!(twins::coefficients(&plan, &store, &mut beta, &mut tally), 0);
+        }
+        // The tables of squares at every residue, and every product of two.
+        let plan = Owned::zeros([p, 2, 1, 0, 0]);
+        for z in 0..p as u16 {
+            for by in 0..2 {
+                let steps = [1, 1, 0, z, 2, 5, 1, by];
+                assert!(twins::run(&plan, &steps, &[1], &mut tally).is_ok());
+            }
+            for w in 0..p as u16 {
+                let steps = [1, 1, 0, z, 1, 5, 1, w];
+                let ran = twins::run(&plan, &steps, &[1], &mut tally).expect("accepted");
+                assert_eq!(ran.y as usize, z as usize * w as usize % p);
+            }
+        }
+    }
+}
+
+/// The five numbers alone, at and beside every limit.
+#[test]
+fn numbers_at_the_limits() {
+    let mut tally = Tally::default();
+    let near = |limit: usize| [limit - 1, limit, limit + 1];
+    let far = [0, 1, 1 << 32, 1 << 63, usize::MAX - 1, usize::MAX];
+    let primes = [
+        far.as_slice(),
+        &[2, 3, 4, 9, 249, 251, 253, 257, 259, 1 << 32 | 3],
+    ]
+    .concat();
+    let radices = [far.as_slice(), &[2, 3, 4, 64, 65, 250, 251, 252, 258]].concat();
+    let digits = [far.as_slice(), &[2, 3, 16, 32], &near(12), &near(64)].concat();
+    let links = [far.as_slice(), &[2, 31, 52], &near(63), &near(64)].concat();
+    let products = [far.as_slice(), &[2, (1 << 58) - 1], &near(15), &near(32)].concat();
+    for &p in &primes {
+        for &s in &radices {
+            for &n in &digits {
+                for &m in &links {
+                    for &t in &products {
+                        let small = p < 300 && n < 300 && m < 300 && t < 300;
+                        let plan = if small {
+                            Owned::zeros([p, s, n, m, t])
+                        } else {
+                            Owned {
+                                p,
+                                s,
+                                n,
+                                m,
+                                t,
+                                ..Owned::xor()
+                            }
+                        };
+                        twins::check(&plan, &mut tally);
+                    }
+                }
+            }
+        }
+    }
+}

@@ -1,0 +1,144 @@
+//! The library against the reference on random plans and calls: answers, every
+//! byte written, and that a refused call changes nothing.
+//!
+//!     CELERYCRAG_CASES=100000 CELERYCRAG_SEED=7 cargo test --release --test random -- --nocapture
+
+mod common;
+use common::faults::{fault, lot, noise};
+use common::plans::{residues, shape, Owned};
+use common::random::{cases, Random};
+use common::tally::Tally;
+use common::twins::{self, Lot};
+
+/// A value for each entry: any; those of one β where it gives values; or those
+/// of one variable where they are values.
+fn table(random: &mut Random, plan: &Owned) -> Vec<usize> {
+    let beta = residues(random, plan.columns(), plan.p);
+    let variable = plan.columns() - 1 - random.below(plan.variables());
+    let kind = random.below(3);
+    let mut row = vec![0; plan.columns()];
+    let mut tally = Tally::default();
+    let mut value = |entry| {
+        twins::row(plan, entry, &mut row, &mut tally);
+        let wanted = match kind {
+            0 => plan.p,
+            1 => plan.product(&row, &beta) as usize,
+            _ => row[variable] as usize,
+        };
+        if wanted < plan.s {
+            wanted
+        } else {
+            random.below(plan.s)
+        }
+    };
+    (0..plan.entries()).map(&mut value).collect()
+}
+
+/// Files a whole table, with repeated and contradicting entries and faulty
+/// calls between, then writes its program and runs it on all inputs.
+fn whole_table(random: &mut Random, plan: &Owned, tally: &mut Tally) {
+    let values = table(random, plan);
+    let mut list: Vec<(usize, usize)> = values.into_iter().enumerate().collect();
+    if random.one_in(2) {
+        random.shuffle(&mut list);
+    }
+    let mut store = plan.empty_store();
+    let mut kept = vec![None; plan.entries()];
+    for (entry, value) in list {
+        if random.one_in(10) {
+            foreign_call(random, plan, &store, tally);
+        }
+        if twins::file(plan, &mut store, entry, value, tally).is_ok() {
+            kept[entry] = Some(value);
+        }
+        if random.one_in(10) {
+            // Again, perhaps with another value.
+            let (entry, value) = (random.below(entry + 1), random.below(plan.s));
+            let answer = twins::file(plan, &mut store, entry, value, tally);
+            match kept[entry] {
+                Some(before) if before == value => assert_eq!(answer, Ok(plan.columns())),
+                Some(_) => assert_eq!(answer, Err(9)),
+                None if answer.is_ok() => kept[entry] = Some(value),
+                None => {}
+            }
+        }
+    }
+
+    assert_eq!(twins::test(plan, &store, tally), 0);
+    let mut beta = random.bytes(plan.columns(), 256);
+    assert_eq!(twins::coefficients(plan, &store, &mut beta, tally), 0);
+    assert!(twins::worst_norm(plan, &beta, tally).is_ok());
+    let slack = random.below(9);
+    let room = vec![random.next() as u16; 4 * plan.step_count() + slack];
+    let steps = twins::write(plan, &beta, &room, tally).expect("an accepted writing");
+    assert_eq!(steps.len(), 4 * plan.step_count());
+
+    let mut row = vec![0; plan.columns()];
+    for (entry, kept) in kept.into_iter().enumerate() {
+        let digits = plan.digits(entry);
+        let ran = twins::run(plan, &steps, &digits, tally).expect("an accepted run");
+        assert_eq!(ran.bootstraps, plan.bootstraps() as u64);
+        assert_eq!(twins::row(plan, entry, &mut row, tally), 0);
+        assert_eq!(ran.y, plan.product(&row, &beta));
+        if let Some(value) = kept {
+            assert_eq!(ran.y as usize, value, "entry {entry}");
+        }
+    }
+}
+
+/// A filing on a copy of the store that is lent something else in one place
+/// or more.
+fn foreign_call(random: &mut Random, plan: &Owned, store: &[u8], tally: &mut Tally) {
+    let mut lot = Lot {
+        entry: random.below(plan.entries()),
+        value: random.below(plan.s),
+        row: vec![0; plan.columns()],
+        store: store.to_vec(),
+        beta: vec![0; plan.columns()],
+        room: vec![],
+        steps: vec![],
+        digits: vec![0; plan.n],
+        plan: plan.clone(),
+    };
+    for _ in 0..random.within(1, 2) {
+        fault(random, &mut lot);
+    }
+    let _ = twins::file(&lot.plan, &mut lot.store, lot.entry, lot.value, tally);
+}
+
+#[test]
+fn whole_tables() {
+    let mut tally = Tally::default();
+    cases("whole tables", 1_000, |random| {
+        // Long tables take long in the reference; a few are enough.
+        let shape = loop {
+            let shape = shape(random, 40);
+            if Owned::zeros(shape).entries() <= 64 || random.one_in(12) {
+                break shape;
+            }
+        };
+        let plan = Owned::random(random, shape);
+        whole_table(random, &plan, &mut tally);
+    });
+}
+
+#[test]
+fn calls_with_faults() {
+    let mut tally = Tally::default();
+    cases("calls with faults", 10_000, |random| {
+        let mut lot = lot(random, 40);
+        for _ in 0..random.pick(&[0, 1, 1, 1, 2, 3]) {
+            fault(random, &mut lot);
+        }
+        twins::all(&lot, &mut tally);
+    });
+    tally.complete();
+}
+
+#[test]
+fn noise_of_all_kinds() {
+    let mut tally = Tally::default();
+    cases("noise", 10_000, |random| {
+        twins::all(&noise(random), &mut tally);
+    });
+}

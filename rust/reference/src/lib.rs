@@ -1,0 +1,43 @@
+//! A naive twin of the table library: document 01 in plain Rust.
+//!
+//! It is written from the papers alone and shares no line with the library.
+//! Tests and benchmarks compare the two, so every function here takes the
+//! shortest way from the sentence to the code: primes by trial division,
+//! inverses by search, Gauss elimination by the book, the run step by step.
+//!
+//! | call | its own parts | answer | causes |
+//! |---|---|---|---|
+//! | [`check_plan`] | | number | 1 2 3 4 5 |
+//! | [`row`] | entry, row out | number | 1 2 3 4 5 7 |
+//! | [`test_store`] | store | number | 1 2 3 4 5 6 |
+//! | [`file()`] | store in and out, entry, value | [`Filed`] | 1 2 3 4 5 6 7 8 9 |
+//! | [`coefficients`] | store, β out | number | 1 2 3 4 5 6 |
+//! | [`check_writing`] | β, step slice | number | 1 2 3 4 5 10 |
+//! | [`write()`] | β, step slice in and out | the filled part | the same |
+//! | [`run`] | steps, digits | [`Ran`], or a number | 1 2 3 4 5 11 12 |
+//! | [`worst_norm`] | β | the norm, or a number | 1 2 3 4 5 |
+//! | [`filing_program`] | standard input | standard output | 1 2 3 5 7 8 9 13 14 |
+//!
+//! Every call but the last takes the numbers `p s n m t`, then the plan's
+//! parts `weights tables d`, then its own parts. Any number may be lent, up to
+//! 2^64 - 1. A number answered is 0 where the call accepts. A refused call
+//! leaves every lent slice as it was.
+
+// Entry points take the plan's numbers and parts one by one, as the library's do.
+#![allow(clippy::too_many_arguments)]
+
+mod field;
+mod norm;
+mod plan;
+mod program;
+mod row;
+mod store;
+mod text;
+
+pub use field::{inverse, is_odd_prime};
+pub use norm::worst_norm;
+pub use plan::{check_plan, Plan};
+pub use program::{check_writing, run, write, Ran};
+pub use row::row;
+pub use store::{coefficients, file, test_store, Filed};
+pub use text::filing_program;

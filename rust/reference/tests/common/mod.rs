@@ -1,0 +1,179 @@
+//! What the tests share: a plan that owns its parts, with the calls as
+//! methods, and a small source of random numbers.
+#![allow(dead_code)]
+
+use reference::{Filed, Ran};
+
+/// A plan with parts of its own, checked or not.
+#[derive(Clone)]
+pub struct Owned {
+    pub p: u64,
+    pub s: u64,
+    pub n: u64,
+    pub m: u64,
+    pub t: u64,
+    pub weights: Vec<u8>,
+    pub tables: Vec<u8>,
+    pub d: Vec<u8>,
+}
+
+/// Calls a function of the reference with the plan's numbers and parts, then
+/// the call's own.
+macro_rules! call {
+    ($f:ident, $plan:expr $(, $own:expr)*) => {
+        reference::$f(
+            $plan.p, $plan.s, $plan.n, $plan.m, $plan.t,
+            &$plan.weights, &$plan.tables, &$plan.d $(, $own)*
+        )
+    };
+}
+#[allow(unused_imports)]
+pub(crate) use call;
+
+impl Owned {
+    /// Plan X of 01, the XOR plan.
+    pub fn xor() -> Owned {
+        Owned {
+            p: 3,
+            s: 2,
+            n: 2,
+            m: 0,
+            t: 1,
+            weights: vec![],
+            tables: vec![],
+            d: vec![1, 1],
+        }
+    }
+
+    /// A plan of this shape with parts of the right lengths, all zeros.
+    pub fn zeros(p: u64, s: u64, n: u64, m: u64, t: u64) -> Owned {
+        let weights = vec![0; (m * n + m * m.saturating_sub(1) / 2) as usize];
+        let tables = vec![0; (m * p) as usize];
+        let d = vec![0; (t * (n + m)) as usize];
+        Owned {
+            p,
+            s,
+            n,
+            m,
+            t,
+            weights,
+            tables,
+            d,
+        }
+    }
+
+    /// A plan of this shape with random parts.
+    pub fn random(random: &mut Random, p: u64, s: u64, n: u64, m: u64, t: u64) -> Owned {
+        let mut plan = Owned::zeros(p, s, n, m, t);
+        for part in [&mut plan.weights, &mut plan.tables, &mut plan.d] {
+            part.iter_mut().for_each(|x| *x = random.below(p) as u8);
+        }
+        plan
+    }
+
+    pub fn columns(&self) -> usize {
+        ((self.t + 1) * (self.n + self.m)) as usize
+    }
+
+    pub fn entries(&self) -> u64 {
+        self.s.pow(self.n as u32)
+    }
+
+    pub fn empty_store(&self) -> Vec<u8> {
+        vec![0; self.columns() * (self.columns() + 1)]
+    }
+
+    pub fn check(&self) -> u32 {
+        call!(check_plan, self)
+    }
+
+    pub fn row(&self, entry: u64) -> Vec<u8> {
+        let mut row = vec![0; self.columns()];
+        assert_eq!(call!(row, self, entry, &mut row), 0);
+        row
+    }
+
+    pub fn test(&self, store: &[u8]) -> u32 {
+        call!(test_store, self, store)
+    }
+
+    pub fn file(&self, store: &mut [u8], entry: u64, value: u64) -> Filed {
+        call!(file, self, store, entry, value)
+    }
+
+    pub fn beta(&self, store: &[u8]) -> Vec<u8> {
+        let mut beta = vec![0; self.columns()];
+        assert_eq!(call!(coefficients, self, store, &mut beta), 0);
+        beta
+    }
+
+    /// The β that filing the values in entry order leaves.
+    pub fn solved(&self, values: &[u64]) -> Vec<u8> {
+        let mut store = self.empty_store();
+        for (entry, &value) in values.iter().enumerate() {
+            let answer = self.file(&mut store, entry as u64, value);
+            assert!(
+                !matches!(answer, Filed::Refused(_)),
+                "entry {entry}: {answer:?}"
+            );
+        }
+        self.beta(&store)
+    }
+
+    pub fn steps(&self, beta: &[u8]) -> Vec<u16> {
+        let mut slice = vec![0; 4 * 5_000];
+        call!(write, self, beta, &mut slice).to_vec()
+    }
+
+    pub fn run(&self, steps: &[u16], digits: &[u8]) -> Result<Ran, u32> {
+        call!(run, self, steps, digits)
+    }
+
+    pub fn worst(&self, beta: &[u8]) -> Result<u64, u32> {
+        call!(worst_norm, self, beta)
+    }
+
+    /// The digits of an entry, found without the reference: from the left, by
+    /// falling powers of s.
+    pub fn digits(&self, entry: u64) -> Vec<u8> {
+        let powers = (0..self.n as u32).rev().map(|place| self.s.pow(place));
+        powers.map(|power| (entry / power % self.s) as u8).collect()
+    }
+
+    /// Equation 1 of 003 with its own nested sums, modulo p.
+    pub fn equation_1(&self, beta: &[u8], digits: &[u8]) -> u8 {
+        let (p, n, l) = (self.p as usize, self.n as usize, (self.n + self.m) as usize);
+        let mut x: Vec<usize> = digits.iter().map(|&digit| digit as usize).collect();
+        let mut weights = self.weights.iter();
+        for k in 0..self.m as usize {
+            let sum: usize = (0..n + k)
+                .map(|j| x[j] * *weights.next().unwrap() as usize)
+                .sum();
+            x.push(self.tables[k * p + sum % p] as usize);
+        }
+        let sum = |of: &[u8]| -> usize { (0..l).map(|j| of[j] as usize * x[j]).sum() };
+        let t = self.t as usize;
+        let products: usize = (0..t)
+            .map(|i| sum(&beta[i * l..]) * sum(&self.d[i * l..]))
+            .sum();
+        ((products + sum(&beta[t * l..])) % p) as u8
+    }
+}
+
+/// The splitmix64 generator.
+pub struct Random(pub u64);
+
+impl Random {
+    pub fn next(&mut self) -> u64 {
+        self.0 = self.0.wrapping_add(0x9e37_79b9_7f4a_7c15);
+        let mut z = self.0;
+        z = (z ^ (z >> 30)).wrapping_mul(0xbf58_476d_1ce4_e5b9);
+        z = (z ^ (z >> 27)).wrapping_mul(0x94d0_49bb_1331_11eb);
+        z ^ (z >> 31)
+    }
+
+    /// A number below k; for tests the small bias does not matter.
+    pub fn below(&mut self, k: u64) -> u64 {
+        self.next() % k
+    }
+}

@@ -1,0 +1,421 @@
+//! Document 01, "The filing program", and the open readings of it, each by a small
+//! text. The number of the reading stands in front of each test.
+
+use reference::filing_program;
+
+/// 01's own example, and what it prints.
+const XOR: &str = "p s n links products\n3 2 2 0 1\n1 1\nentry value\n0 0\n1 1\n2 1\n3 0\n";
+const XOR_LISTING: &str = "bootstraps steps worst\n2 19 2\nkind to from by\n0 6 0 0\n0 2 0 0\n\
+    1 2 0 0\n1 2 1 1\n0 3 0 0\n1 3 0 1\n1 3 1 1\n0 4 0 0\n1 4 2 1\n1 4 3 1\n0 5 0 0\n1 5 2 1\n\
+    1 5 3 2\n2 4 4 0\n2 5 5 1\n1 6 4 1\n1 6 5 1\n1 6 0 1\n1 6 1 0\n";
+
+/// XOR's first lines: line 1; lines 1 and 2; up to d; up to `entry value`.
+const NAMES: &str = "p s n links products\n";
+const VALUES: &str = "p s n links products\n3 2 2 0 1\n";
+const PLAN: &str = "p s n links products\n3 2 2 0 1\n1 1\n";
+const HEADER: &str = "p s n links products\n3 2 2 0 1\n1 1\nentry value\n";
+
+fn prints(input: impl AsRef<[u8]>) -> String {
+    String::from_utf8(filing_program(input.as_ref())).unwrap()
+}
+
+/// That the text is refused with this number at this line, and prints nothing
+/// else.
+#[track_caller]
+fn refused(input: impl AsRef<[u8]>, number: u32, line: u64) {
+    assert_eq!(prints(input), format!("refusal line\n{number} {line}\n"));
+}
+
+/// The text that begins with `before` and goes on with `line` and its LF.
+fn then(before: &str, line: &str) -> String {
+    format!("{before}{line}\n")
+}
+
+#[test]
+fn xor_byte_for_byte() {
+    assert_eq!(prints(XOR), XOR_LISTING);
+}
+
+#[test]
+fn reading_1_empty_input() {
+    refused("", 13, 1);
+}
+
+#[test]
+fn reading_2_no_entries() {
+    let all_zero = XOR_LISTING
+        .replace("1 2 1 1", "1 2 1 0")
+        .replace("1 6 0 1", "1 6 0 0");
+    assert_eq!(prints(HEADER), all_zero);
+}
+
+#[test]
+fn reading_3_final_line_without_lf() {
+    refused(&XOR[..XOR.len() - 1], 13, 8);
+    refused("p s n links products", 13, 1);
+    refused(&VALUES[..VALUES.len() - 1], 13, 2);
+    refused(&PLAN[..PLAN.len() - 1], 13, 3);
+    refused(&HEADER[..HEADER.len() - 1], 13, 4);
+    // An earlier line is judged first.
+    refused(then(HEADER, "0 1") + "3 0", 9, 5);
+    refused(then(HEADER, "0 0") + "9 9", 13, 6);
+}
+
+#[test]
+fn reading_4_text_ends_early() {
+    refused(NAMES, 13, 2);
+    refused(VALUES, 13, 3);
+    refused(PLAN, 13, 4);
+    let links = "p s n links products\n3 2 1 2 1\n";
+    refused(links, 13, 3);
+    refused(then(links, "1"), 13, 4);
+    refused(then(links, "1\n1 0 0"), 13, 5);
+    refused(then(links, "1\n1 0 0\n1 2"), 13, 6);
+    refused(then(links, "1\n1 0 0\n1 2\n0 1 2"), 13, 7);
+    refused(then(links, "1\n1 0 0\n1 2\n0 1 2\n1 1 1"), 13, 8);
+}
+
+#[test]
+fn reading_5_empty_lines() {
+    refused("\n", 13, 1);
+    refused(then(NAMES, ""), 13, 2);
+    refused(then(VALUES, ""), 13, 3);
+    refused(then(PLAN, ""), 13, 4);
+    refused(then(HEADER, ""), 13, 5);
+    refused(then(XOR, ""), 13, 9);
+}
+
+#[test]
+fn reading_6_names_byte_for_byte() {
+    for names in [
+        "p s n links products ",
+        " p s n links products",
+        "p  s n links products",
+        "P s n links products",
+        "p s n links product",
+        "p s n links productss",
+        "p\ts n links products",
+        "\u{feff}p s n links products",
+    ] {
+        refused(XOR.replace("p s n links products", names), 13, 1);
+    }
+    for names in [
+        "entry  value",
+        "entry value ",
+        " entry value",
+        "Entry value",
+        "entry",
+        "value",
+    ] {
+        refused(XOR.replace("entry value", names), 13, 4);
+    }
+}
+
+#[test]
+fn reading_7_cr_lf() {
+    refused(XOR.replace('\n', "\r\n"), 13, 1);
+    refused(XOR.replace("3 2 2 0 1\n", "3 2 2 0 1\r\n"), 13, 2);
+    refused(XOR.replace("3 0\n", "3 0\r\n"), 13, 8);
+}
+
+/// A plan of p = 251 with one link, up to the line before its table.
+const TABLE_NEXT: &str = "p s n links products\n251 2 1 1 0\n1\n";
+
+/// A table line of 251 numbers that has `bytes` bytes with its LF.
+fn table_line(bytes: usize) -> String {
+    let mut numbers = vec!["1"; 251];
+    let mut missing = bytes - (251 + 251);
+    for number in &mut numbers {
+        let more = missing.min(4);
+        *number = ["1", "11", "111", "1111", "11111"][more];
+        missing -= more;
+    }
+    assert_eq!(missing, 0);
+    numbers.join(" ") + "\n"
+}
+
+#[test]
+fn reading_8_a_line_of_1024_bytes() {
+    assert_eq!(table_line(1_024).len(), 1_024);
+    refused(TABLE_NEXT.to_owned() + &table_line(1_023), 5, 4);
+    refused(TABLE_NEXT.to_owned() + &table_line(1_024), 5, 4);
+    refused(TABLE_NEXT.to_owned() + &table_line(1_025), 13, 4);
+    // A longest table of residues passes: 251 numbers of three digits.
+    let table = vec!["250"; 251].join(" ") + "\nentry value\n";
+    assert!(prints(TABLE_NEXT.to_owned() + &table).starts_with("bootstraps steps worst\n1 6 1\n"));
+}
+
+#[test]
+fn reading_9_an_overlong_line_is_13_whatever_it_begins_with() {
+    refused(then(VALUES, &("9 9".to_owned() + &" 9".repeat(600))), 13, 3);
+    refused(
+        then(HEADER, &("9 9".to_owned() + &" ".repeat(2_000))),
+        13,
+        5,
+    );
+    refused(
+        then(
+            "",
+            &("p s n links products".to_owned() + &" ".repeat(2_000)),
+        ),
+        13,
+        1,
+    );
+}
+
+#[test]
+fn reading_10_the_rest_of_an_overlong_line_is_no_new_line() {
+    let x = "x".repeat(1_024);
+    refused(x.clone() + XOR, 13, 1);
+    refused(then(HEADER, &(x.clone() + "0 0")), 13, 5);
+    refused(then(HEADER, &("0 0\n".to_owned() + &x + "0 0\n1 1")), 13, 6);
+    // Also where the text ends within it.
+    refused(HEADER.to_owned() + &x.repeat(100), 13, 5);
+}
+
+#[test]
+fn reading_11_wide_numbers() {
+    for p in ["65539", "65536", "99999", "256", "259", "253"] {
+        refused(then(NAMES, &format!("{p} 2 2 0 1")), 1, 2);
+    }
+    refused(then(NAMES, "3 65538 2 0 1"), 2, 2);
+    refused(then(NAMES, "3 258 2 0 1"), 2, 2);
+    refused(then(NAMES, "3 2 65538 0 1"), 3, 2);
+    refused(then(NAMES, "3 2 2 65536 1"), 3, 2);
+    refused(then(NAMES, "3 2 2 256 1"), 3, 2);
+    refused(then(NAMES, "3 2 2 0 65537"), 3, 2);
+    refused(then(NAMES, "3 2 2 0 257"), 3, 2);
+    for weight in ["256", "257", "65536", "65537", "99999"] {
+        refused(then(VALUES, &format!("1 {weight}")), 5, 3);
+    }
+    for entry in ["256", "65536", "65537", "99999", "4"] {
+        refused(then(HEADER, &format!("{entry} 0")), 7, 5);
+    }
+    for value in ["256", "257", "65536", "65537", "99999"] {
+        refused(then(HEADER, &format!("1 {value}")), 8, 5);
+    }
+}
+
+#[test]
+fn reading_12_six_digits() {
+    for number in [
+        "100000",
+        "000001",
+        "999999",
+        "4294967299",
+        "18446744073709551619",
+    ] {
+        refused(then(NAMES, &format!("{number} 2 2 0 1")), 13, 2);
+        refused(then(VALUES, &format!("1 {number}")), 13, 3);
+        refused(then(HEADER, &format!("{number} 0")), 13, 5);
+        refused(then(HEADER, &format!("0 {number}")), 13, 5);
+    }
+}
+
+#[test]
+fn reading_13_leading_zeros_and_signs() {
+    for number in ["00", "01", "00000", "-0", "+1", "-1", "1.", "0x1", "1e0"] {
+        refused(then(VALUES, &format!("1 {number}")), 13, 3);
+        refused(then(VALUES, &format!("{number} 1")), 13, 3);
+        refused(then(HEADER, &format!("{number} 0")), 13, 5);
+        refused(then(HEADER, &format!("0 {number}")), 13, 5);
+    }
+    assert!(prints(then(HEADER, "0 0")).starts_with("bootstraps"));
+}
+
+#[test]
+fn reading_14_the_order_on_the_values_line() {
+    for (values, number) in [
+        ("2 1 0 0", 13),
+        ("2 1 0 0 0 0", 13),
+        ("2 1 0 0 01", 13),
+        ("2 1 0 0 99", 1),
+        ("0 0 0 0 0", 1),
+        ("1 2 2 0 1", 1),
+        ("9 1 0 0 99", 1),
+        ("3 1 0 0 99", 2),
+        ("3 0 2 0 1", 2),
+        ("3 4 0 0 99", 2),
+        ("3 2 0 0 0", 3),
+        ("3 2 0 1 0", 3),
+        ("3 2 1 64 0", 3),
+        ("3 2 1 0 33", 3),
+        ("3 2 13 0 0", 3),
+        ("3 3 8 0 0", 3),
+        ("3 2 2 62 16", 3),
+        ("3 2 2 62 15", 14),
+        ("3 2 2 62 3", 14),
+        ("3 2 1 7 31", 14),
+        ("3 2 13 51 3", 3),
+        // C = 255 passes, and line 3 is then missing.
+        ("3 2 2 49 4", 0),
+        ("3 2 12 0 0", 0),
+        ("3 3 7 0 0", 0),
+        ("3 3 2 0 1", 0),
+    ] {
+        match number {
+            0 => refused(then(NAMES, values), 13, 3),
+            _ => refused(then(NAMES, values), number, 2),
+        }
+    }
+}
+
+#[test]
+fn reading_15_no_overflow() {
+    refused(then(NAMES, "3 2 64 0 0"), 3, 2);
+    refused(then(NAMES, "251 251 64 0 0"), 3, 2);
+    refused(then(NAMES, "251 16 16 0 0"), 3, 2);
+    refused(then(NAMES, "3 2 99999 0 0"), 3, 2);
+    refused(then(NAMES, "3 2 1 99999 99999"), 3, 2);
+    refused(then(NAMES, "3 2 99999 99999 99999"), 3, 2);
+    refused(then(NAMES, "3 2 1 65535 65535"), 3, 2);
+}
+
+#[test]
+fn reading_16_cause_14_stands_on_the_values_line() {
+    refused(then(NAMES, "3 2 2 62 3\nnonsense"), 14, 2);
+    refused(then(NAMES, "3 2 2 62 3"), 14, 2);
+    refused(then(NAMES, "3 2 2 62 3\n9 9"), 14, 2);
+}
+
+#[test]
+fn reading_17_cause_5_stands_on_its_own_line() {
+    // Then missing, malformed, or also refused.
+    for after in ["", "nonsense\n", "entry value\n9 9\n"] {
+        refused(then(VALUES, "1 3") + after, 5, 3);
+    }
+    let links = "p s n links products\n3 2 1 1 1\n";
+    refused(then(links, "3"), 5, 3);
+    refused(then(links, "1\n0 3 0"), 5, 4);
+    refused(then(links, "1\n0 1 2\n2 3"), 5, 5);
+    // A malformed line before it wins.
+    refused(then(links, "01\n0 3 0"), 13, 3);
+}
+
+#[test]
+fn reading_18_a_wrong_count_beats_cause_5() {
+    refused(then(VALUES, "3 3 3"), 13, 3);
+    refused(then(VALUES, "3"), 13, 3);
+}
+
+#[test]
+fn reading_19_a_wrong_count_is_13() {
+    let links = "p s n links products\n3 2 1 1 1\n";
+    refused(then(links, "1 1"), 13, 3);
+    refused(then(links, "1\n1 1"), 13, 4);
+    refused(then(links, "1\n1 1 1 1"), 13, 4);
+    refused(then(links, "1\n1 1 1\n1"), 13, 5);
+    refused(then(links, "1\n1 1 1\n1 1 1"), 13, 5);
+    refused(then(HEADER, "0"), 13, 5);
+    refused(then(HEADER, "0 0 0"), 13, 5);
+    refused(then(VALUES, "1 1 "), 13, 3);
+    refused(then(VALUES, " 1 1"), 13, 3);
+    refused(then(VALUES, "1  1"), 13, 3);
+}
+
+#[test]
+fn reading_20_the_order_on_an_entry_line() {
+    refused(then(HEADER, "4 2"), 7, 5);
+    refused(then(HEADER, "0 0\n0 2"), 8, 6);
+    refused(then(HEADER, "1 0\n1 2"), 8, 6);
+    refused(then(HEADER, "1 0\n1 1"), 9, 6);
+    refused(then(HEADER, "4 01"), 13, 5);
+}
+
+#[test]
+fn reading_21_a_residue_that_is_no_value() {
+    refused(then(HEADER, "1 2"), 8, 5);
+    refused(then(HEADER, "1 3"), 8, 5);
+}
+
+#[test]
+fn reading_22_too_many_or_too_few_lines() {
+    refused(XOR.replace("1 1\nentry", "1 1\n1 1\nentry"), 13, 4);
+    refused(XOR.replace("1 1\nentry", "entry"), 13, 3);
+    let one_link = "p s n links products\n3 2 1 1 0\n1\n1 0 0\n";
+    assert!(prints(then(one_link, "entry value\n0 1\n1 0")).starts_with("bootstraps"));
+    refused(then(one_link, "1\n1 0 0\nentry value"), 13, 5);
+    refused(
+        "p s n links products\n3 2 1 2 0\n1\n1 0 0\nentry value\n",
+        13,
+        5,
+    );
+}
+
+#[test]
+fn reading_23_a_second_plan_after_the_entries() {
+    refused(XOR.to_owned() + XOR, 13, 9);
+    refused(then(XOR, "entry value"), 13, 9);
+}
+
+#[test]
+fn reading_24_more_than_65535_lines() {
+    let many = HEADER.to_owned() + &"1 1\n".repeat(70_000);
+    assert!(prints(&many).starts_with("bootstraps"));
+    refused(then(&many, "1 0"), 9, 70_005);
+    refused(then(&many, ""), 13, 70_005);
+}
+
+#[test]
+fn reading_25_the_last_line_ends_in_lf() {
+    assert!(prints(XOR).ends_with("1 6 1 0\n"));
+    assert!(prints("").ends_with("13 1\n"));
+}
+
+#[test]
+fn reading_26_nothing_but_the_output_is_fixed() {
+    // The program is a function of its input: the same text prints the same.
+    assert_eq!(prints(XOR), prints(XOR));
+}
+
+#[test]
+fn reading_27_other_bytes() {
+    for byte in [0, b'\t', 0x0b, 0x0c, b'\r', 0x1b, 0x7f, 0x80, 0xa0, 0xff] {
+        for place in ["1 1?", "1?1", "?1 1", "1 ?1", "?", "1 1 ?"] {
+            let line: Vec<u8> = place
+                .bytes()
+                .map(|b| if b == b'?' { byte } else { b })
+                .collect();
+            let text = [VALUES.as_bytes(), &line, b"\nentry value\n"].concat();
+            refused(text, 13, 3);
+        }
+    }
+    // NUL does not end the text.
+    refused(XOR.to_owned() + "\0", 13, 9);
+    refused(XOR.to_owned() + "\0\n", 13, 9);
+    refused(then(HEADER, "0 \u{661}"), 13, 5);
+}
+
+#[test]
+fn reading_28_worst_norms() {
+    let bare = "p s n links products\n7 6 1 0 0\nentry value\n";
+    assert!(prints(bare).starts_with("bootstraps steps worst\n0 2 0\n"));
+    assert!(prints(then(bare, "1 5")).starts_with("bootstraps steps worst\n0 2 25\n"));
+    // 64 weights of 250: seven digits.
+    let mut text = String::from("p s n links products\n251 2 1 63 1\n");
+    for k in 0..63 {
+        text += &(vec!["0"; 1 + k].join(" ") + "\n");
+        text += &(vec!["0"; 251].join(" ") + "\n");
+    }
+    text += &(vec!["250"; 64].join(" ") + "\nentry value\n");
+    assert!(prints(text).starts_with("bootstraps steps worst\n65 2347 4000000\n"));
+}
+
+#[test]
+fn reading_29_nothing_is_printed_before_a_late_refusal() {
+    refused(then(XOR, "3 1"), 9, 9);
+}
+
+#[test]
+fn reading_30_bootstraps_are_the_kind_2_steps() {
+    let text = "p s n links products\n5 2 2 3 2\n1 2\n0 1 2 3 4\n1 0 1\n4 3 2 1 0\n0 0 0 0\n\
+        1 1 1 1 1\n1 2 3 4 0\n0 0 0 0 0\nentry value\n0 1\n3 1\n";
+    let listing = prints(text);
+    let kind_2 = listing
+        .lines()
+        .skip(3)
+        .filter(|line| line.starts_with("2 "))
+        .count();
+    assert_eq!(kind_2, 3 + 2 * 2);
+    assert!(listing.starts_with("bootstraps steps worst\n7 "));
+}
