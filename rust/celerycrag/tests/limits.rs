@@ -3,7 +3,8 @@
 //! are few.
 
 mod common;
-use common::faults::{fault, lot_of};
+use common::faults::fault;
+use common::lots::lot_of;
 use common::plans::{primes, reduced, Owned};
 use common::random::{cases, Random};
 use common::tally::Tally;

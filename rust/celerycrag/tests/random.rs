@@ -4,7 +4,8 @@
 //!     CELERYCRAG_CASES=100000 CELERYCRAG_SEED=7 cargo test --release --test random -- --nocapture
 
 mod common;
-use common::faults::{fault, lot, noise};
+use common::faults::fault;
+use common::lots::{lot, noise};
 use common::plans::{residues, shape, Owned};
 use common::random::{cases, Random};
 use common::tally::Tally;

@@ -40,7 +40,8 @@ fn call_line(call: &str, plan: &Plan, least: &[f64]) -> String {
 const INTRODUCTION: &str = "\
 All figures come from one run of `rust/run-bench`, one thread, built for release. \
 Each is the least of 5 to 50 rounds in which the contenders take turns, in \
-processor time, so that other work on the machine counts little. Plans are \
+processor time, so that other work on the machine counts little; still the ratios \
+are steadier than the times. Plans are \
 random, of radix 2, and the table filed is that of the first link, so that every \
 entry is kept. The reference is `rust/reference`, a naive twin that is made to be \
 read and not to be fast; both check everything they are lent on every call.

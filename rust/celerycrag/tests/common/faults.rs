@@ -1,12 +1,11 @@
-//! Random lots for the nine calls, and what can be wrong with them.
+//! What can be wrong with a lot.
 
-use super::plans::{reduced, residues, shape, Owned};
+use super::plans::Owned;
 use super::random::Random;
 use super::twins::Lot;
-use celerycrag::raw;
 
 /// Numbers at and beside the limits, and where narrower types end.
-const EDGES: [usize; 42] = [
+pub const EDGES: [usize; 42] = [
     0,
     1,
     2,
@@ -60,81 +59,6 @@ fn another(random: &mut Random, right: usize) -> usize {
         2 => right.wrapping_add(1 << random.pick(&[8, 16, 32, 48, 63])),
         _ => random.pick(&EDGES),
     }
-}
-
-/// A lot with nothing wrong, of a plan of at most so many columns.
-pub fn lot(random: &mut Random, most_columns: usize) -> Lot {
-    let shape = shape(random, most_columns);
-    lot_of(random, shape)
-}
-
-/// A lot with nothing wrong, of a random plan of this shape.
-pub fn lot_of(random: &mut Random, shape: [usize; 5]) -> Lot {
-    let plan = Owned::random(random, shape);
-    let store = match random.below(4) {
-        0 => plan.empty_store(),
-        1 => filed(random, &plan),
-        _ => {
-            let one_row_in = random.pick(&[1, 2, 2, 5]);
-            reduced(random, &plan, one_row_in)
-        }
-    };
-    let beta = residues(random, plan.columns(), plan.p);
-    let slack = random.pick(&[0, 0, 1, 4, 50]);
-    let room: Vec<u16> = (0..4 * plan.step_count() + slack)
-        .map(|_| random.next() as u16)
-        .collect();
-    let steps = if random.one_in(2) {
-        written(&plan, &beta)
-    } else {
-        let count = random.below(60);
-        well_formed(random, &plan, count)
-    };
-    Lot {
-        entry: random.below(plan.entries()),
-        value: random.below(plan.s),
-        row: random.bytes(plan.columns(), 256),
-        store,
-        beta,
-        room,
-        steps,
-        digits: random.bytes(plan.n, plan.s),
-        plan,
-    }
-}
-
-/// The store after a few filings.
-fn filed(random: &mut Random, plan: &Owned) -> Vec<u8> {
-    let mut store = plan.empty_store();
-    for _ in 0..random.below(12) {
-        let (entry, value) = (random.below(plan.entries()), random.below(plan.s));
-        raw::file(plan.lent(), &mut store, entry, value, &mut 0);
-    }
-    store
-}
-
-/// The program of a plan and β.
-fn written(plan: &Owned, beta: &[u8]) -> Vec<u16> {
-    let mut steps = vec![0; 4 * plan.step_count()];
-    raw::write(plan.lent(), beta, &mut steps, &mut 0);
-    steps
-}
-
-/// A foreign list: so many steps, each in order, of any kind.
-pub fn well_formed(random: &mut Random, plan: &Owned, count: usize) -> Vec<u16> {
-    let registers = plan.variables() + 5;
-    let mut steps = Vec::new();
-    for _ in 0..count {
-        let kind = random.below(3);
-        let (to, from) = (random.below(registers), random.below(registers));
-        let step = match kind {
-            0 => [0, to, 0, 0],
-            1 => [1, to, from, random.below(plan.p)],
-            _ => [2, to, from, random.below(plan.m + 2)],
-        };
-        steps.extend(step.map(|number| number as u16));
-    }
-    steps
 }
 
 /// Makes one thing wrong, or at least likely to be.
@@ -303,44 +227,4 @@ fn bad_digit(random: &mut Random, lot: &mut Lot) {
     let place = random.below(lot.digits.len());
     let digit = random.pick(&[lot.plan.s, lot.plan.p, lot.plan.p.wrapping_sub(1), 255]);
     lot.digits[place] = digit.min(255) as u8;
-}
-
-/// Numbers and bytes without any plan behind them.
-pub fn noise(random: &mut Random) -> Lot {
-    let mut lot = lot(random, 12);
-    if random.one_in(2) {
-        let any = |random: &mut Random, count: usize| {
-            let (count, k) = (random.below(count), random.pick(&[2, 3, 8, 256]));
-            random.bytes(count, k)
-        };
-        lot.plan.weights = any(random, 5);
-        lot.plan.tables = any(random, 12);
-        lot.plan.d = any(random, 9);
-        lot.row = any(random, 13);
-        lot.beta = any(random, 13);
-        lot.digits = any(random, 4);
-        lot.store = any(random, 160);
-    }
-    let numbers = [
-        &mut lot.plan.p,
-        &mut lot.plan.s,
-        &mut lot.plan.n,
-        &mut lot.plan.m,
-        &mut lot.plan.t,
-        &mut lot.entry,
-        &mut lot.value,
-    ];
-    for number in numbers {
-        match random.below(6) {
-            0 => *number = random.pick(&EDGES),
-            1 => *number = random.below(8),
-            _ => {}
-        }
-    }
-    let below = random.pick(&[3, 8, 65_536]);
-    for steps in [&mut lot.steps, &mut lot.room] {
-        let count = random.below(5) * 4 + random.pick(&[0, 0, 0, 1]);
-        *steps = (0..count).map(|_| random.below(below) as u16).collect();
-    }
-    lot
 }

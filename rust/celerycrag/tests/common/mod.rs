@@ -3,6 +3,7 @@
 #![allow(dead_code)]
 
 pub mod faults;
+pub mod lots;
 pub mod plans;
 pub mod random;
 pub mod tally;

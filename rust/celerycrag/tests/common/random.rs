@@ -61,12 +61,12 @@ fn setting(name: &str, otherwise: u64) -> u64 {
 
 /// Runs a test's cases, each on random numbers of its own.
 ///
-/// CELERYCRAG_CASES says how many random tables are filed, 4,000 where it is
+/// CELERYCRAG_CASES says how many random tables are filed, 10,000 where it is
 /// not set, and each test takes so many thousandths of that; CELERYCRAG_SEED is
 /// the seed. Both are printed, and on a failure also the case at fault.
 pub fn cases(name: &str, thousandths: u64, mut case: impl FnMut(&mut Random)) {
     let seed = setting("CELERYCRAG_SEED", 1);
-    let count = (thousandths * setting("CELERYCRAG_CASES", 4_000)).div_ceil(1_000);
+    let count = (thousandths * setting("CELERYCRAG_CASES", 10_000)).div_ceil(1_000);
     println!("{name}: {count} cases, CELERYCRAG_SEED={seed}");
     for number in 0..count {
         let told = Told { name, seed, number };
