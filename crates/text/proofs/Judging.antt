@@ -1,0 +1,194 @@
+-- What the judgement of a line is, from what the code tests and answers, at each kind of place.
+--     products-more, products-done, links-more, links-done       the place after so many products, or links
+--     header-thirteen, header-refused, header-wide, header-passed     the values line
+--     part-placed                       a line of a part written into a buffer, from a place on
+--     weights-, table-, product-refuses and -reaches       the lines of parts
+-- Assumes nothing.
+use mathlib.Core.Path.{_≡_, refl, sym, ap, ap₂, subst, _∙_}
+use mathlib.Core.Bool.{Bool, true, false, cond, not, _&&_}
+use mathlib.Core.List.{List, [], _∷_, _++_, map, append-assoc}
+use Prim.Native.Nat.{ℕ, zero, suc, _+_, _-_, _*_, _≤_, _<_}
+use native.Mathlib.Nat.{add-sub-cancel-left}
+use native.Mathlib.Numerals.{add-one}
+use native.Mathlib.Omega.{arith}
+use lib.Dec.{eqb, ltb}
+use lib.ListN.{length, take, drop, length-append, length-map, take-append-drop}
+use lib.Seq.{take-at, length-take-le, drop-drop}
+use borrow.Author.Tests.{lt-ltb, le-ltb}
+use Rattle.lists.specs.Places.{at, placed}
+use Rattle.field.specs.Rows.{allBelow}
+use Rattle.plan.specs.declared.numbers.Plan.{Plan}
+use Rattle.plan.specs.declared.numbers.Checked.{Checked}
+use Rattle.plan.specs.declared.numbers.Checked.the-variants.{Accepted, Refused}
+use Rattle.plan.specs.Causes.{first, result}
+use Rattle.plan.specs.Numbers.{variables, columns, numberCauses, plan, answer, checked}
+use Rattle.plan.proofs.Refusals.{first-refused, first-passed, call-plan}
+use Rattle.text.specs.Lines.{cutAt, number, asks, numbers}
+use Rattle.text.specs.Words.{partCauses}
+use Rattle.text.specs.Meaning.{Place, header, weights, table, product, entryNames, Judged, next, cause, unless, afterLinks, afterProducts, headerCauses, headerPlan, judged}
+use Rattle.text.proofs.Filling.{asked}
+
+module _ (P : Plan) (w T : List ℕ) where
+  pub products-more : (j : ℕ) (d : List ℕ) → j < P .t → next (product P j w T d) ≡ next (afterProducts P j w T d)
+  products-more j d h = rw (lt-ltb j (P .t) h)
+
+  pub products-done : (j : ℕ) (d : List ℕ) → P .t ≤ j → next (entryNames P w T d) ≡ next (afterProducts P j w T d)
+  products-done j d h = rw (le-ltb j (P .t) h)
+
+  pub links-more : (k : ℕ) → k < P .m → next (weights P k w T) ≡ next (afterLinks P k w T)
+  links-more k h = rw (lt-ltb k (P .m) h)
+
+  pub links-done : (k : ℕ) → P .m ≤ k → next (afterProducts P 0 w T []) ≡ next (afterLinks P k w T)
+  links-done k h = rw (le-ltb k (P .m) h)
+
+-- a refusal, or the next place
+refuses : (k : ℕ) (place : Place) → (k ≡ 0 → ⊥) → cause k ≡ unless k place
+refuses zero place h = absurd (h refl)
+refuses (suc k) place h = refl
+
+reaches : (k : ℕ) (place : Place) → k ≡ 0 → next place ≡ unless k place
+reaches zero place h = refl
+reaches (suc k) place h = absurd (omega arith)
+
+-- what the constructor's answer says
+number-of : (j : ℕ) (P : Plan) (k : ℕ) → answer j P ≡ Refused k → (j ≡ k) × (0 < k)
+number-of zero P k e = let z : _≡_ {A = ℕ} 0 1 = cc in absurd (omega arith)
+number-of (suc j) P k e = let same : suc j ≡ k = cc in (same, omega arith)
+
+none-of : (j : ℕ) (P Q : Plan) → answer j P ≡ Accepted Q → j ≡ 0
+none-of zero P Q e = refl
+none-of (suc j) P Q e = let z : _≡_ {A = ℕ} 0 1 = cc in absurd (omega arith)
+
+pub header-thirteen : (line : List ℕ) → asks 5 line ≡ false → cause 13 ≡ judged header line
+unfolding judged
+header-thirteen line e = rw e
+
+-- the values line by its numbers
+outcome : Plan → Judged
+outcome P = unless (first (headerCauses P)) (afterLinks P 0 [] [])
+
+header-judged : (line : List ℕ) → asks 5 line ≡ true → judged header line ≡ outcome (headerPlan (numbers line))
+unfolding judged outcome
+header-judged line e = rw e
+
+module _ (p s n m t : ℕ) where
+  wide : List (ℕ × Bool)
+  wide = (14, ltb 255 (columns (plan p s n m t))) ∷ []
+
+  outcome-refused : (k : ℕ) → checked p s n m t ≡ Refused k → cause k ≡ outcome (plan p s n m t)
+  unfolding checked outcome wide
+  outcome-refused k e =
+      let r = number-of (first (numberCauses p s n m t)) (plan p s n m t) k e in
+      refuses k (afterLinks (plan p s n m t) 0 [] []) (λ z. omega (arith, r .1))
+      ∙ ap (λ (j : ℕ). unless j (afterLinks (plan p s n m t) 0 [] [])) (first-refused (numberCauses p s n m t) wide k (omega arith) (r .0) (r .1))
+
+  module _ (Q : Plan) (e : checked p s n m t ≡ Accepted Q) where
+    passed : first (headerCauses (plan p s n m t)) ≡ first wide
+    unfolding checked wide
+    passed = first-passed (numberCauses p s n m t) wide (omega arith) (none-of (first (numberCauses p s n m t)) (plan p s n m t) Q e)
+
+    same-columns : columns Q ≡ columns (plan p s n m t)
+    same-columns = ap columns (sym (call-plan p s n m t e))
+
+    outcome-wide : 255 < columns Q → cause 14 ≡ outcome (plan p s n m t)
+    unfolding outcome wide
+    outcome-wide h =
+        let met : first (headerCauses (plan p s n m t)) ≡ 14 = passed ∙ rw (lt-ltb 255 (columns (plan p s n m t)) (rw same-columns at h)) in
+        refuses 14 (afterLinks (plan p s n m t) 0 [] []) (λ z. omega arith)
+        ∙ ap (λ (j : ℕ). unless j (afterLinks (plan p s n m t) 0 [] [])) (sym met)
+
+    outcome-passed : columns Q ≤ 255 → next (afterLinks Q 0 [] []) ≡ outcome (plan p s n m t)
+    unfolding outcome wide
+    outcome-passed h =
+        let met : first (headerCauses (plan p s n m t)) ≡ 0 = passed ∙ rw (le-ltb 255 (columns (plan p s n m t)) (rw same-columns at h)) in
+        ap (λ (R : Plan). next (afterLinks R 0 [] [])) (sym (call-plan p s n m t e))
+        ∙ reaches (first (headerCauses (plan p s n m t))) (afterLinks (plan p s n m t) 0 [] []) met
+
+module _ (line ns : List ℕ) (e : ns ≡ numbers line) (asks5 : asks 5 line ≡ true) where
+  is-outcome : outcome (plan (at ns 0) (at ns 1) (at ns 2) (at ns 3) (at ns 4)) ≡ judged header line
+  is-outcome = ap (λ (l : List ℕ). outcome (headerPlan l)) e ∙ sym (header-judged line asks5)
+
+  pub header-refused : (k : ℕ) → checked (at ns 0) (at ns 1) (at ns 2) (at ns 3) (at ns 4) ≡ Refused k → cause k ≡ judged header line
+  header-refused k h = outcome-refused (at ns 0) (at ns 1) (at ns 2) (at ns 3) (at ns 4) k h ∙ is-outcome
+
+  module _ (Q : Plan) (h : checked (at ns 0) (at ns 1) (at ns 2) (at ns 3) (at ns 4) ≡ Accepted Q) where
+    pub header-wide : 255 < columns Q → cause 14 ≡ judged header line
+    header-wide l = outcome-wide (at ns 0) (at ns 1) (at ns 2) (at ns 3) (at ns 4) Q h l ∙ is-outcome
+
+    pub header-passed : columns Q ≤ 255 → next (afterLinks Q 0 [] []) ≡ judged header line
+    header-passed l = outcome-passed (at ns 0) (at ns 1) (at ns 2) (at ns 3) (at ns 4) Q h l ∙ is-outcome
+
+-- a line of a part: r is its refusal
+module _ (n p r : ℕ) (line : List ℕ) (e : r ≡ first (partCauses n p line)) where
+  part-count : r ≡ 0 → length (numbers line) ≡ n
+  unfolding numbers
+  part-count z = by (asks n line) refl
+    where
+      by : (b : Bool) → asks n line ≡ b → length (map number (cutAt 32 line)) ≡ n
+      by true a = length-map (cutAt 32 line) number ∙ asked n line a .1
+      by false a = let w : r ≡ 13 = e ∙ rw a in absurd (omega arith)
+
+  part-refuses : (place : Place) → (r ≡ 0 → ⊥) → cause r ≡ unless (first (partCauses n p line)) place
+  part-refuses place h = refuses r place h ∙ ap (λ (k : ℕ). unless k place) e
+
+  part-reaches : (place : Place) → r ≡ 0 → next place ≡ unless (first (partCauses n p line)) place
+  part-reaches place z = reaches r place z ∙ ap (λ (k : ℕ). unless k place) e
+
+  -- the filled part of the buffer grows by the line's numbers
+  part-filled : (buf out : List ℕ) (a : ℕ) → r ≡ 0 → a + n ≤ length buf → out ≡ result r (placed buf a (numbers line)) buf → take (a + n) out ≡ take a buf ++ numbers line
+  part-filled buf out a z h o =
+      ap (take (a + n)) (o ∙ ap (λ (k : ℕ). result k (placed buf a (numbers line)) buf) z ∙ sym (append-assoc (take a buf) (numbers line) (drop (a + length (numbers line)) buf)))
+      ∙ take-at (take a buf ++ numbers line) (drop (a + length (numbers line)) buf) (a + n)
+      (length-append (take a buf) (numbers line) ∙ ap₂ _+_ (length-take-le a buf (omega arith)) (part-count z))
+
+  -- the part as it was lent, put back into the buffer
+  pub part-placed : (buf part : List ℕ) (a : ℕ) → a + n ≤ length buf → part ≡ result r (numbers line) (take (a + n - a) (drop a buf)) → take a buf ++ (part ++ drop (a + n - a) (drop a buf)) ≡ result r (placed buf a (numbers line)) buf
+  part-placed buf part a h q = rw add-sub-cancel-left (by r refl)
+    where
+      q′ : part ≡ result r (numbers line) (take n (drop a buf))
+      q′ = rw add-sub-cancel-left at q
+
+      by : (k : ℕ) → r ≡ k → take a buf ++ (part ++ drop n (drop a buf)) ≡ result r (placed buf a (numbers line)) buf
+      by zero z =
+          ap (λ (l : List ℕ). take a buf ++ (l ++ drop n (drop a buf))) (q′ ∙ ap (λ (k : ℕ). result k (numbers line) (take n (drop a buf))) z)
+          ∙ ap (λ (l : List ℕ). take a buf ++ (numbers line ++ l)) (drop-drop n a buf ∙ ap (λ (j : ℕ). drop (a + j) buf) (sym (part-count z)))
+          ∙ ap (λ (k : ℕ). result k (placed buf a (numbers line)) buf) (sym z)
+      by (suc k) z =
+          ap (λ (l : List ℕ). take a buf ++ (l ++ drop n (drop a buf))) (q′ ∙ ap (λ (k : ℕ). result k (numbers line) (take n (drop a buf))) z)
+          ∙ ap (λ (l : List ℕ). take a buf ++ l) (take-append-drop n (drop a buf))
+          ∙ take-append-drop a buf
+          ∙ ap (λ (k : ℕ). result k (placed buf a (numbers line)) buf) (sym z)
+
+module _ (P : Plan) (k r : ℕ) (line : List ℕ) where
+  module _ (e : r ≡ first (partCauses (P .n + k) (P .p) line)) where
+    pub weights-refuses : (w T : List ℕ) → (r ≡ 0 → ⊥) → cause r ≡ judged (weights P k w T) line
+    unfolding judged
+    weights-refuses w T h = part-refuses (P .n + k) (P .p) r line e (table P k (w ++ numbers line) T) h
+
+    pub weights-reaches : (w out T : List ℕ) (a : ℕ) → r ≡ 0 → a + (P .n + k) ≤ length w → out ≡ result r (placed w a (numbers line)) w → next (table P k (take (a + (P .n + k)) out) T) ≡ judged (weights P k (take a w) T) line
+    unfolding judged
+    weights-reaches w out T a z h o =
+        ap (λ (l : List ℕ). next (table P k l T)) (part-filled (P .n + k) (P .p) r line e w out a z h o)
+        ∙ part-reaches (P .n + k) (P .p) r line e (table P k (take a w ++ numbers line) T) z
+
+  module _ (e : r ≡ first (partCauses (P .p) (P .p) line)) where
+    pub table-refuses : (w T : List ℕ) → (r ≡ 0 → ⊥) → cause r ≡ judged (table P k w T) line
+    unfolding judged
+    table-refuses w T h = part-refuses (P .p) (P .p) r line e (afterLinks P (suc k) w (T ++ numbers line)) h
+
+    pub table-reaches : (w T out : List ℕ) (b : ℕ) → r ≡ 0 → b + P .p ≤ length T → out ≡ result r (placed T b (numbers line)) T → next (afterLinks P (k + 1) w (take (b + P .p) out)) ≡ judged (table P k w (take b T)) line
+    unfolding judged
+    table-reaches w T out b z h o =
+        ap₂ (λ (i : ℕ) (l : List ℕ). next (afterLinks P i w l)) (add-one k) (part-filled (P .p) (P .p) r line e T out b z h o)
+        ∙ part-reaches (P .p) (P .p) r line e (afterLinks P (suc k) w (take b T ++ numbers line)) z
+
+  module _ (e : r ≡ first (partCauses (P .n + P .m) (P .p) line)) where
+    pub product-refuses : (w T d : List ℕ) → (r ≡ 0 → ⊥) → cause r ≡ judged (product P k w T d) line
+    unfolding judged
+    product-refuses w T d h = part-refuses (P .n + P .m) (P .p) r line e (afterProducts P (suc k) w T (d ++ numbers line)) h
+
+    pub product-reaches : (w T d out : List ℕ) (c : ℕ) → r ≡ 0 → c + (P .n + P .m) ≤ length d → out ≡ result r (placed d c (numbers line)) d → next (afterProducts P (k + 1) w T (take (c + (P .n + P .m)) out)) ≡ judged (product P k w T (take c d)) line
+    unfolding judged
+    product-reaches w T d out c z h o =
+        ap₂ (λ (i : ℕ) (l : List ℕ). next (afterProducts P i w T l)) (add-one k) (part-filled (P .n + P .m) (P .p) r line e d out c z h o)
+        ∙ part-reaches (P .n + P .m) (P .p) r line e (afterProducts P (suc k) w T (take c d ++ numbers line)) z

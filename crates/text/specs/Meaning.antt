@@ -1,0 +1,96 @@
+-- 01, "The filing program": the meaning of a text, from the bytes of standard input to the bytes of standard output.
+-- "Names line, values line; per link a line of weights, then a line with its table; a d line per product; names line `entry value`, then
+-- entries to the end." A text is a fold over its lines with a place: what the next line is to be, with what has been read so far.
+--     Place               where a line stands
+--     judged place line   the next place, or the cause of a refusal: one clause for each kind of line
+--     ended place j       what is printed when the text ends before line j: the listing after entries, else 13 for the missing line j
+--     meaning text        the bytes printed
+use mathlib.Core.Bool.{Bool, true, false, cond, not, _&&_}
+use mathlib.Core.List.{List, [], _∷_, _++_}
+use Prim.Native.Nat.{ℕ, zero, suc, _+_, _*_}
+use lib.Dec.{eqb, ltb}
+use lib.ListN.{length, replicate}
+use Rattle.lists.specs.Places.{at}
+use Rattle.field.specs.Rows.{allBelow}
+use Rattle.plan.specs.declared.numbers.Plan.{Plan}
+use Rattle.plan.specs.Causes.{first}
+use Rattle.plan.specs.Numbers.{variables, columns, numberCauses, plan}
+use Rattle.store.specs.Calls.{fileCauses, filed, coefficients}
+use Rattle.listing.specs.Printed.{listing, refused}
+use Rattle.text.specs.Lines.{cutAt, asks, numbers, same}
+
+pub data Place : Type 0 where
+  names : Place
+  header : Place
+  weights : Plan → ℕ → List ℕ → List ℕ → Place
+  table : Plan → ℕ → List ℕ → List ℕ → Place
+  product : Plan → ℕ → List ℕ → List ℕ → List ℕ → Place
+  entryNames : Plan → List ℕ → List ℕ → List ℕ → Place
+  entries : Plan → List ℕ → List ℕ → List ℕ → List ℕ → Place
+
+pub data Judged : Type 0 where
+  next : Place → Judged
+  cause : ℕ → Judged
+
+-- `p s n links products` and `entry value`
+abbrev pub planNames : List ℕ
+planNames = 112 ∷ 32 ∷ 115 ∷ 32 ∷ 110 ∷ 32 ∷ 108 ∷ 105 ∷ 110 ∷ 107 ∷ 115 ∷ 32 ∷ 112 ∷ 114 ∷ 111 ∷ 100 ∷ 117 ∷ 99 ∷ 116 ∷ 115 ∷ []
+
+abbrev pub pairNames : List ℕ
+pairNames = 101 ∷ 110 ∷ 116 ∷ 114 ∷ 121 ∷ 32 ∷ 118 ∷ 97 ∷ 108 ∷ 117 ∷ 101 ∷ []
+
+-- the place after b of the products, and after k of the links
+abbrev pub afterProducts : Plan → ℕ → List ℕ → List ℕ → List ℕ → Place
+afterProducts P b w T d = cond (ltb b (P .t)) (product P b w T d) (entryNames P w T d)
+
+abbrev pub afterLinks : Plan → ℕ → List ℕ → List ℕ → Place
+afterLinks P k w T = cond (ltb k (P .m)) (weights P k w T) (afterProducts P 0 w T [])
+
+-- the next place where the refusal is 0
+abbrev pub unless : ℕ → Place → Judged
+unless zero place = next place
+unless (suc k) place = cause (suc k)
+
+-- the values line: causes 1 to 3, then "C above 255 in the filing program"
+abbrev pub headerCauses : Plan → List (ℕ × Bool)
+headerCauses P = numberCauses (P .p) (P .s) (P .n) (P .m) (P .t) ++ ((14, ltb 255 (columns P)) ∷ [])
+
+abbrev pub headerPlan : List ℕ → Plan
+headerPlan ns = plan (at ns 0) (at ns 1) (at ns 2) (at ns 3) (at ns 4)
+
+-- 13 first for its line, then the place's own causes
+unfoldable pub judged : Place → List ℕ → Judged
+judged names bytes = unless (first ((13, not (same bytes planNames)) ∷ [])) header
+judged header bytes =
+    let P = headerPlan (numbers bytes) in
+    unless (first ((13, not (asks 5 bytes)) ∷ headerCauses P)) (afterLinks P 0 [] [])
+judged (weights P k w T) bytes =
+    unless (first ((13, not (asks (P .n + k) bytes)) ∷ (5, not (allBelow (P .p) (numbers bytes))) ∷ [])) (table P k (w ++ numbers bytes) T)
+judged (table P k w T) bytes =
+    unless (first ((13, not (asks (P .p) bytes)) ∷ (5, not (allBelow (P .p) (numbers bytes))) ∷ [])) (afterLinks P (suc k) w (T ++ numbers bytes))
+judged (product P b w T d) bytes =
+    unless (first ((13, not (asks (variables P) bytes)) ∷ (5, not (allBelow (P .p) (numbers bytes))) ∷ [])) (afterProducts P (suc b) w T (d ++ numbers bytes))
+judged (entryNames P w T d) bytes =
+    unless (first ((13, not (same bytes pairNames)) ∷ [])) (entries P w T d (replicate (columns P * (columns P + 1)) 0))
+judged (entries P w T d S) bytes =
+    let i = at (numbers bytes) 0 in
+    let v = at (numbers bytes) 1 in
+    unless (first ((13, not (asks 2 bytes)) ∷ fileCauses (P .p) (P .s) (P .n) (P .m) (P .t) w T d S i v)) (entries P w T d (filed P w T d S i v))
+
+unfoldable pub ended : Place → ℕ → List ℕ
+ended names j = refused 13 j
+ended header j = refused 13 j
+ended (weights P k w T) j = refused 13 j
+ended (table P k w T) j = refused 13 j
+ended (product P b w T d) j = refused 13 j
+ended (entryNames P w T d) j = refused 13 j
+ended (entries P w T d S) j = listing P w d (coefficients (columns P) S)
+
+-- the lines from line j on: each piece but the last is a whole line; the last is what follows the last LF, a line without its LF unless empty
+unfoldable pub from : ℕ → Place → List (List ℕ) → List ℕ
+from j place [] = ended place j
+from j place (bytes ∷ []) = elim bytes [ [] ↦ ended place j | _∷_ x xs ↦ refused 13 j ]
+from j place (bytes ∷ (more ∷ pieces)) = elim (judged place bytes) [ next after ↦ from (suc j) after (more ∷ pieces) | cause k ↦ refused k j ]
+
+unfoldable pub meaning : List ℕ → List ℕ
+meaning text = from 1 names (cutAt 10 text)

@@ -1,0 +1,138 @@
+// The stages of a text and the judgement of a line at each: which line is to come, and how much of each lent buffer is filled.
+ghost use mathlib.Core.Path.{_≡_};
+ghost use mathlib.Core.List.{List, []};
+ghost use Prim.Native.Nat.{ℕ, _+_, _*_, _≤_, _<_};
+ghost use lib.ListN.{length, take};
+ghost use Rattle.lists.specs.Places.{placed};
+ghost use Rattle.plan.specs.Causes.{first, result};
+ghost use Rattle.text.specs.Lines as lines;
+ghost use Rattle.text.specs.Meaning as meaning;
+ghost use Rattle.text.specs.Words as words;
+ghost use Rattle.text.specs.Progress.{judgedOf, Planned, Fits};
+use crate::reading::asks;
+use crate::reading::read_numbers;
+use crate::reading::read_part;
+use plan::Checked;
+use plan::Plan;
+
+// The line to come. A link's or product's number stands behind the plan; then how many weights, table values and product weights are read.
+pub enum Stage {
+    Names,
+    Header,
+    Weights(Plan, usize, usize, usize),
+    Table(Plan, usize, usize, usize),
+    Product(Plan, usize, usize, usize, usize),
+    EntryNames(Plan, usize, usize, usize),
+    Entries(Plan, usize, usize, usize),
+    Stopped(u8),
+}
+
+// The stage after j of the products.
+fn after_products(plan: Plan, j: usize, a: usize, b: usize, c: usize) -> Stage
+    requires { ⌜ Planned plan ⌝ }
+    requires { ⌜ (a ≤ 4096) × (b ≤ 16384) × (c ≤ 64 * j) × (j ≤ 32) ⌝ }
+    ensures { λ r. ⌜ Fits r ⌝ }
+    ensures { λ r. ⌜ ((w T d S : List ℕ) → judgedOf r w T d S ≡ meaning.next (meaning.afterProducts plan j (take a w) (take b T) (take c d))) ⌝ }
+{
+    if j < plan.t {
+        return Stage::Product(plan, j, a, b, c);
+    }
+    Stage::EntryNames(plan, a, b, c)
+}
+
+// The stage after k of the links.
+fn after_links(plan: Plan, k: usize, a: usize, b: usize) -> Stage
+    requires { ⌜ Planned plan ⌝ }
+    requires { ⌜ (a ≤ 64 * k) × (b ≤ 251 * k) × (k ≤ 63) ⌝ }
+    ensures { λ r. ⌜ Fits r ⌝ }
+    ensures { λ r. ⌜ ((w T d S : List ℕ) → judgedOf r w T d S ≡ meaning.next (meaning.afterLinks plan k (take a w) (take b T))) ⌝ }
+{
+    if k < plan.m {
+        return Stage::Weights(plan, k, a, b);
+    }
+    after_products(plan, 0, a, b, 0)
+}
+
+// The values line: 13, causes 1 to 3, then 14.
+fn header_line(line: &[u8]) -> Stage
+    ensures { λ r. ⌜ Fits r ⌝ }
+    ensures { λ r. ⌜ ((w T d S : List ℕ) → judgedOf r w T d S ≡ meaning.judged meaning.header (now (line .entry))) ⌝ }
+{
+    if !asks(line, 5) {
+        return Stage::Stopped(13);
+    }
+    let mut v = [0usize; 5];
+    read_numbers(line, &mut v);
+    match Plan::new(v[0], v[1], v[2], v[3], v[4]) {
+        Checked::Refused(k) => Stage::Stopped(k),
+        Checked::Accepted(plan) => {
+            if 255 < plan.columns() {
+                return Stage::Stopped(14);
+            }
+            after_links(plan, 0, 0, 0)
+        }
+    }
+}
+
+// A line of `count` residues into a buffer, from place `from` on: 13, 5, or 0. A refusal leaves the buffer as it was.
+fn part_line(line: &[u8], p: u8, from: usize, count: usize, buffer: &mut [u8]) -> u8
+    requires { ⌜ from + count ≤ length (now buffer) ⌝ }
+    ensures { λ r. ⌜ r ≡ first (words.partCauses count p (now (line .entry))) ⌝ }
+    ensures { λ r. ⌜ now (buffer .exit) ≡ result r (placed (now (buffer .entry)) from (lines.numbers (now (line .entry)))) (now (buffer .entry)) ⌝ }
+{
+    let end = from + count;
+    read_part(line, p as usize, &mut buffer[from..end])
+}
+
+// A line of link weights.
+fn weights_line(plan: Plan, k: usize, a: usize, b: usize, line: &[u8], weights: &mut [u8]) -> Stage
+    requires { ⌜ Fits (Stage.Weights plan k a b) ⌝ }
+    requires { ⌜ 4096 ≤ length (now weights) ⌝ }
+    ensures { λ r. ⌜ Fits r ⌝ }
+    ensures { λ r. ⌜ ((T d S : List ℕ) → judgedOf r (now (weights .exit)) T d S ≡ meaning.judged (meaning.weights plan k (take a (now (weights .entry))) (take b T)) (now (line .entry))) ⌝ }
+{
+    let count = plan.n + k;
+    let cause = part_line(line, plan.p, a, count, weights);
+    if cause != 0 {
+        return Stage::Stopped(cause);
+    }
+    Stage::Table(plan, k, a + count, b)
+}
+
+// A line with a link's table.
+fn table_line(plan: Plan, k: usize, a: usize, b: usize, line: &[u8], tables: &mut [u8]) -> Stage
+    requires { ⌜ Fits (Stage.Table plan k a b) ⌝ }
+    requires { ⌜ 16384 ≤ length (now tables) ⌝ }
+    ensures { λ r. ⌜ Fits r ⌝ }
+    ensures { λ r. ⌜ ((w d S : List ℕ) → judgedOf r w (now (tables .exit)) d S ≡ meaning.judged (meaning.table plan k (take a w) (take b (now (tables .entry)))) (now (line .entry))) ⌝ }
+{
+    let count = plan.p as usize;
+    let cause = part_line(line, plan.p, b, count, tables);
+    if cause != 0 {
+        return Stage::Stopped(cause);
+    }
+    after_links(plan, k + 1, a, b + count)
+}
+
+// A line of product weights.
+fn product_line(
+    plan: Plan,
+    j: usize,
+    a: usize,
+    b: usize,
+    c: usize,
+    line: &[u8],
+    d: &mut [u8],
+) -> Stage
+    requires { ⌜ Fits (Stage.Product plan j a b c) ⌝ }
+    requires { ⌜ 2048 ≤ length (now d) ⌝ }
+    ensures { λ r. ⌜ Fits r ⌝ }
+    ensures { λ r. ⌜ ((w T S : List ℕ) → judgedOf r w T (now (d .exit)) S ≡ meaning.judged (meaning.product plan j (take a w) (take b T) (take c (now (d .entry)))) (now (line .entry))) ⌝ }
+{
+    let count = plan.n + plan.m;
+    let cause = part_line(line, plan.p, c, count, d);
+    if cause != 0 {
+        return Stage::Stopped(cause);
+    }
+    after_products(plan, j + 1, a, b, c + count)
+}
