@@ -229,7 +229,7 @@ module _ (p s n m t : ℕ) (w T d : List ℕ) (own : Plan → Bool) (rest : Plan
     call-passed h = after-numbers ∙ first-passed (partCauses Q w T d (own Q)) (rest Q) (omega arith) (sym h)
 
 -- a plan that is accepted by itself: only a call's own causes are left
-first-none : (a b : List (ℕ × Bool)) → Numbered a → first (a ++ b) ≡ 0 → (first a ≡ 0) × (first b ≡ 0)
+pub first-none : (a b : List (ℕ × Bool)) → Numbered a → first (a ++ b) ≡ 0 → (first a ≡ 0) × (first b ≡ 0)
 first-none a b h e = neither-refuses (first a) (first b) (sym (first-append a b h) ∙ e)
   where
     neither-refuses : (j k : ℕ) → orElse j k ≡ 0 → (j ≡ 0) × (k ≡ 0)

@@ -23,3 +23,4 @@ pub mod Clearing
 pub mod Outcomes
 pub mod EntryEquations
 pub mod StoreCalls
+pub mod Readiness

@@ -1,5 +1,6 @@
 -- What the judgement of a line is, from what the code tests and answers, at each kind of place.
 --     products-more, products-done, links-more, links-done       the place after so many products, or links
+--     refuses, reaches                  a refusal, or the next place
 --     header-thirteen, header-refused, header-wide, header-passed     the values line
 --     part-placed                       a line of a part written into a buffer, from a place on
 --     weights-, table-, product-refuses and -reaches       the lines of parts
@@ -42,11 +43,11 @@ module _ (P : Plan) (w T : List ℕ) where
   links-done k h = rw (le-ltb k (P .m) h)
 
 -- a refusal, or the next place
-refuses : (k : ℕ) (place : Place) → (k ≡ 0 → ⊥) → cause k ≡ unless k place
+pub refuses : (k : ℕ) (place : Place) → (k ≡ 0 → ⊥) → cause k ≡ unless k place
 refuses zero place h = absurd (h refl)
 refuses (suc k) place h = refl
 
-reaches : (k : ℕ) (place : Place) → k ≡ 0 → next place ≡ unless k place
+pub reaches : (k : ℕ) (place : Place) → k ≡ 0 → next place ≡ unless k place
 reaches zero place h = refl
 reaches (suc k) place h = absurd (omega arith)
 

@@ -5,12 +5,13 @@
 --     judged place line   the next place, or the cause of a refusal: one clause for each kind of line
 --     ended place j       what is printed when the text ends before line j: the listing after entries, else 13 for the missing line j
 --     meaning text        the bytes printed
+--     printed text out, printedLength text out     a lent slice with the output at its front, and the output's length
 use mathlib.Core.Bool.{Bool, true, false, cond, not, _&&_}
 use mathlib.Core.List.{List, [], _∷_, _++_}
 use Prim.Native.Nat.{ℕ, zero, suc, _+_, _*_}
 use lib.Dec.{eqb, ltb}
 use lib.ListN.{length, replicate}
-use Rattle.lists.specs.Places.{at}
+use Rattle.lists.specs.Places.{at, placed}
 use Rattle.field.specs.Rows.{allBelow}
 use Rattle.plan.specs.declared.numbers.Plan.{Plan}
 use Rattle.plan.specs.Causes.{first}
@@ -94,3 +95,10 @@ from j place (bytes ∷ (more ∷ pieces)) = elim (judged place bytes) [ next af
 
 unfoldable pub meaning : List ℕ → List ℕ
 meaning text = from 1 names (cutAt 10 text)
+
+-- A whole text printed into a lent slice. 131,072 bytes are enough for every text; a slice with less stays as it is, and 0 is answered.
+unfoldable pub printed : List ℕ → List ℕ → List ℕ
+printed text out = cond (ltb (length out) 131072) out (placed out 0 (meaning text))
+
+unfoldable pub printedLength : List ℕ → List ℕ → ℕ
+printedLength text out = cond (ltb (length out) 131072) 0 (length (meaning text))

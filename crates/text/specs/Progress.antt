@@ -2,14 +2,22 @@
 -- buffer is filled; the buffers stand beside it.
 --     judgedOf stage w T d S      the place, or the cause at which it stopped, over the buffers' bytes
 --     Fits stage                  the stage is within its buffers: what is filled leaves room for the lines to come
-use mathlib.Core.Path.{_≡_}
-use mathlib.Core.List.{List, []}
+--     entryCauses, entered        an entry line: its causes, and the store behind it
+--     stateOf state line w T d S  the definition's state, over the bytes of the line and the buffers
+--     Room w T d S                the buffers are as large as the text may need
+--     rejudged o line             the judgement of a line after the judgement o of those before it
+use mathlib.Core.Bool.{Bool, not}
+use mathlib.Core.List.{List, _∷_}
 use Prim.Native.Nat.{ℕ, _+_, _*_, _≤_, _<_}
-use lib.ListN.{take}
+use lib.ListN.{length, take}
 use Rattle.plan.specs.declared.numbers.Plan.{Plan}
 use Rattle.plan.specs.Numbers.{columns, Within}
-use Rattle.text.specs.Meaning.{Place, names, header, weights, table, product, entryNames, entries, Judged, next, cause, judged}
-use Rattle.text.specs.Streaming.{State, reading, stopped}
+use Rattle.lists.specs.Places.{at}
+use Rattle.store.specs.Calls.{fileCauses, filed}
+use Rattle.text.specs.Lines.{asks, numbers}
+use Rattle.text.specs.Meaning.{names, header, weights, table, product, entryNames, entries, Judged, next, cause, judged}
+use Rattle.text.specs.Streaming as streaming
+use Rattle.text.specs.declared.turns.State.{State}
 use Rattle.text.specs.declared.stages.Stage.{Stage}
 use Rattle.text.specs.declared.stages.Stage.the-variants.{Names, Header, Weights, Table, Product, EntryNames, Entries, Stopped}
 
@@ -36,3 +44,28 @@ Fits (Product P j a b c) = Planned P × (j < P .t) × (a ≤ 4096) × (b ≤ 163
 Fits (EntryNames P a b c) = Planned P × (a ≤ 4096) × (b ≤ 16384) × (c ≤ 2048)
 Fits (Entries P a b c) = Planned P × (a ≤ 4096) × (b ≤ 16384) × (c ≤ 2048)
 Fits (Stopped k) = Unit {0}
+
+abbrev pub entryCauses : Plan → List ℕ → List ℕ → List ℕ → List ℕ → List ℕ → List (ℕ × Bool)
+entryCauses P w T d S line =
+    (13, not (asks 2 line)) ∷ fileCauses (P .p) (P .s) (P .n) (P .m) (P .t) w T d S (at (numbers line) 0) (at (numbers line) 1)
+
+abbrev pub entered : Plan → List ℕ → List ℕ → List ℕ → List ℕ → List ℕ → List ℕ
+entered P w T d S line = filed P w T d S (at (numbers line) 0) (at (numbers line) 1)
+
+abbrev pub rejudged : Judged → List ℕ → Judged
+rejudged (next place) line = judged place line
+rejudged (cause k) line = cause k
+
+-- the state with its line number and the bytes held
+abbrev pub stated : ℕ → List ℕ → Judged → streaming.State
+stated j held (next place) = streaming.reading j held place
+stated j held (cause k) = streaming.stopped k j
+
+abbrev pub stateOf : State → List ℕ → List ℕ → List ℕ → List ℕ → List ℕ → streaming.State
+stateOf state line w T d S = stated (state .line) (take (state .held) line) (judgedOf (state .stage) w T d S)
+
+pub record Room (w T d S : List ℕ) : Type 0 where
+  pub weights-room : 4096 ≤ length w
+  pub tables-room : 16384 ≤ length T
+  pub products-room : 2048 ≤ length d
+  pub store-room : 65536 ≤ length S

@@ -7,8 +7,8 @@ ghost use Rattle.field.specs.Rows.{allBelow};
 ghost use Rattle.plan.specs.Causes.{first, result};
 ghost use Rattle.text.specs.Lines as lines;
 ghost use Rattle.text.specs.Words as specs;
+use crate::cursor::read;
 use crate::numerals::Numeral;
-use crate::numerals::number_at;
 
 // Whether two byte strings are equal.
 pub fn same(xs: &[u8], ys: &[u8]) -> bool
@@ -37,7 +37,7 @@ pub fn asks(line: &[u8], count: usize) -> bool
     let mut at: usize = 0;
     let mut i: usize = 0;
     while at <= line.len() {
-        match number_at(line, at) {
+        match read(line, at) {
             Numeral::Malformed => {
                 return false;
             }
@@ -57,7 +57,7 @@ fn numbers_below(line: &[u8], p: usize) -> bool
 {
     let mut at: usize = 0;
     while at <= line.len() {
-        match number_at(line, at) {
+        match read(line, at) {
             Numeral::Malformed => {
                 return false;
             }
@@ -80,7 +80,7 @@ pub fn read_numbers(line: &[u8], out: &mut [usize])
     let mut at: usize = 0;
     let mut i: usize = 0;
     while at <= line.len() {
-        match number_at(line, at) {
+        match read(line, at) {
             Numeral::Malformed => {
                 return;
             }
@@ -102,7 +102,7 @@ fn read_bytes(line: &[u8], out: &mut [u8])
     let mut at: usize = 0;
     let mut i: usize = 0;
     while at <= line.len() {
-        match number_at(line, at) {
+        match read(line, at) {
             Numeral::Malformed => {
                 return;
             }

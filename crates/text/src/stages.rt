@@ -12,6 +12,7 @@ ghost use Rattle.text.specs.Progress.{judgedOf, Planned, Fits};
 use crate::reading::asks;
 use crate::reading::read_numbers;
 use crate::reading::read_part;
+use crate::reading::same;
 use plan::Checked;
 use plan::Plan;
 
@@ -53,8 +54,19 @@ fn after_links(plan: Plan, k: usize, a: usize, b: usize) -> Stage
     after_products(plan, 0, a, b, 0)
 }
 
+// The first names line.
+pub fn names_line(line: &[u8]) -> Stage
+    ensures { λ r. ⌜ Fits r ⌝ }
+    ensures { λ r. ⌜ ((w T d S : List ℕ) → judgedOf r w T d S ≡ meaning.judged meaning.names (now (line .entry))) ⌝ }
+{
+    if !same(line, b"p s n links products") {
+        return Stage::Stopped(13);
+    }
+    Stage::Header
+}
+
 // The values line: 13, causes 1 to 3, then 14.
-fn header_line(line: &[u8]) -> Stage
+pub fn header_line(line: &[u8]) -> Stage
     ensures { λ r. ⌜ Fits r ⌝ }
     ensures { λ r. ⌜ ((w T d S : List ℕ) → judgedOf r w T d S ≡ meaning.judged meaning.header (now (line .entry))) ⌝ }
 {
@@ -85,7 +97,14 @@ fn part_line(line: &[u8], p: u8, from: usize, count: usize, buffer: &mut [u8]) -
 }
 
 // A line of link weights.
-fn weights_line(plan: Plan, k: usize, a: usize, b: usize, line: &[u8], weights: &mut [u8]) -> Stage
+pub fn weights_line(
+    plan: Plan,
+    k: usize,
+    a: usize,
+    b: usize,
+    line: &[u8],
+    weights: &mut [u8],
+) -> Stage
     requires { ⌜ Fits (Stage.Weights plan k a b) ⌝ }
     requires { ⌜ 4096 ≤ length (now weights) ⌝ }
     ensures { λ r. ⌜ Fits r ⌝ }
@@ -100,7 +119,7 @@ fn weights_line(plan: Plan, k: usize, a: usize, b: usize, line: &[u8], weights: 
 }
 
 // A line with a link's table.
-fn table_line(plan: Plan, k: usize, a: usize, b: usize, line: &[u8], tables: &mut [u8]) -> Stage
+pub fn table_line(plan: Plan, k: usize, a: usize, b: usize, line: &[u8], tables: &mut [u8]) -> Stage
     requires { ⌜ Fits (Stage.Table plan k a b) ⌝ }
     requires { ⌜ 16384 ≤ length (now tables) ⌝ }
     ensures { λ r. ⌜ Fits r ⌝ }
@@ -115,7 +134,7 @@ fn table_line(plan: Plan, k: usize, a: usize, b: usize, line: &[u8], tables: &mu
 }
 
 // A line of product weights.
-fn product_line(
+pub fn product_line(
     plan: Plan,
     j: usize,
     a: usize,

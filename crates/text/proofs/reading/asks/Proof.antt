@@ -23,14 +23,14 @@ returns c = sym (long-refused _ _ (c .if1 .taken))
 loop-holds : tie.Need-loop-holds Inv-loop μ-loop
 loop-holds c = (omega arith, omega arith, counted-start _ _ (c .if1 .left))
 
-number-at-requires : tie.Need-number-at-requires Inv-loop μ-loop
-number-at-requires c κs = omega arith
+read-requires : tie.Need-read-requires Inv-loop μ-loop
+read-requires c κs = omega arith
 
 enum-told : tie.Need-enum-told Inv-loop μ-loop
 enum-told c = search needs
 
 returns-2 : tie.Need-returns-2 Inv-loop μ-loop
-returns-2 c = sym (c .before .before .before .before .loop .inv .2 ∙ counted-none _ _ _ _ (c .before .before .before .loop-test .taken) (sym (c .before .before .number-at .ensures) ∙ c .enum-told .given .1))
+returns-2 c = sym (c .before .before .before .before .loop .inv .2 ∙ counted-none _ _ _ _ (c .before .before .before .loop-test .taken) (sym (c .before .before .read .ensures) ∙ c .enum-told .given .1))
 
 enum-known-next : tie.Need-enum-known-next Inv-loop μ-loop
 enum-known-next c = search needs
@@ -39,11 +39,11 @@ add-i : tie.Need-add-i Inv-loop μ-loop
 add-i c = omega arith
 
 loop-less : tie.Need-loop-less Inv-loop μ-loop
-loop-less c = let n = next-place _ _ _ _ (c .before .before .before .before .loop-test .taken) (sym (c .before .before .before .number-at .ensures) ∙ c .before .next .given .1) in omega (arith, n)
+loop-less c = let n = next-place _ _ _ _ (c .before .before .before .before .loop-test .taken) (sym (c .before .before .before .read .ensures) ∙ c .before .next .given .1) in omega (arith, n)
 
 loop-again : tie.Need-loop-again Inv-loop μ-loop
 loop-again c =
-    let found = sym (c .before .before .before .number-at .ensures) ∙ c .before .next .given .1 in
+    let found = sym (c .before .before .before .read .ensures) ∙ c .before .next .given .1 in
     let n = next-place _ _ _ _ (c .before .before .before .before .loop-test .taken) found in
     (n .1, omega (arith, n .0), c .before .before .before .before .before .loop .inv .2 ∙ counted-next _ _ _ _ _ _ (c .before .before .before .before .loop-test .taken) found)
 
@@ -58,7 +58,7 @@ asks-spec =
     μ-loop
     returns
     loop-holds
-    number-at-requires
+    read-requires
     enum-told
     returns-2
     enum-known-next

@@ -21,27 +21,27 @@ abbrev μ-loop : tie.MeasureT-loop
 loop-holds : tie.Need-loop-holds Inv-loop μ-loop
 loop-holds c = (omega arith, well-start _ (c .before .pre), below-start _ _)
 
-number-at-requires : tie.Need-number-at-requires Inv-loop μ-loop
-number-at-requires c κs = omega arith
+read-requires : tie.Need-read-requires Inv-loop μ-loop
+read-requires c κs = omega arith
 
 enum-told : tie.Need-enum-told Inv-loop μ-loop
 enum-told c = search needs
 
 returns : tie.Need-returns Inv-loop μ-loop
-returns c = absurd (never _ _ (c .before .before .before .loop-test .taken) (c .before .before .before .before .loop .inv .1) (sym (c .before .before .number-at .ensures) ∙ c .enum-told .given .1))
+returns c = absurd (never _ _ (c .before .before .before .loop-test .taken) (c .before .before .before .before .loop .inv .1) (sym (c .before .before .read .ensures) ∙ c .enum-told .given .1))
 
 enum-known-v : tie.Need-enum-known-v Inv-loop μ-loop
 enum-known-v c = search needs
 
 returns-2 : tie.Need-returns-2 Inv-loop μ-loop
-returns-2 c = sym (c .before .before .before .before .before .before .loop .inv .2 ∙ below-refuted _ _ _ _ _ (c .before .before .before .before .before .loop-test .taken) (sym (c .before .before .before .before .number-at .ensures) ∙ c .before .before .v .given .1) (c .if1 .taken))
+returns-2 c = sym (c .before .before .before .before .before .before .loop .inv .2 ∙ below-refuted _ _ _ _ _ (c .before .before .before .before .before .loop-test .taken) (sym (c .before .before .before .before .read .ensures) ∙ c .before .before .v .given .1) (c .if1 .taken))
 
 loop-less : tie.Need-loop-less Inv-loop μ-loop
-loop-less c = let n = next-place _ _ _ _ (c .before .before .before .before .before .loop-test .taken) (sym (c .before .before .before .before .number-at .ensures) ∙ c .before .before .v .given .1) in omega (arith, n)
+loop-less c = let n = next-place _ _ _ _ (c .before .before .before .before .before .loop-test .taken) (sym (c .before .before .before .before .read .ensures) ∙ c .before .before .v .given .1) in omega (arith, n)
 
 loop-again : tie.Need-loop-again Inv-loop μ-loop
 loop-again c =
-    let found = sym (c .before .before .before .before .number-at .ensures) ∙ c .before .before .v .given .1 in
+    let found = sym (c .before .before .before .before .read .ensures) ∙ c .before .before .v .given .1 in
     let n = next-place _ _ _ _ (c .before .before .before .before .before .loop-test .taken) found in
     (n .1, well-next _ _ _ _ (c .before .before .before .before .before .loop-test .taken) (c .before .before .before .before .before .before .loop .inv .1) found, c .before .before .before .before .before .before .loop .inv .2 ∙ below-next _ _ _ _ _ (c .before .before .before .before .before .loop-test .taken) found (c .if1 .left))
 
@@ -55,7 +55,7 @@ numbers-below-spec =
     Inv-loop
     μ-loop
     loop-holds
-    number-at-requires
+    read-requires
     enum-told
     returns
     enum-known-v

@@ -19,8 +19,8 @@ abbrev μ-loop : tie.MeasureT-loop
 loop-holds : tie.Need-loop-holds Inv-loop μ-loop
 loop-holds c = (filling-start _ _ (c .before .before .pre .0), sym (below-start _ _) ∙ c .before .before .pre .1)
 
-number-at-requires : tie.Need-number-at-requires Inv-loop μ-loop
-number-at-requires c κs = omega arith
+read-requires : tie.Need-read-requires Inv-loop μ-loop
+read-requires c κs = omega arith
 
 enum-told : tie.Need-enum-told Inv-loop μ-loop
 enum-told c = search needs
@@ -29,13 +29,13 @@ same-length : tie.Need-same-length Inv-loop μ-loop
 same-length c = c .before .before .before .before .loop .inv .0 .same
 
 returns : tie.Need-returns Inv-loop μ-loop
-returns c = absurd (never _ _ (c .before .before .before .loop-test .taken) (c .before .before .before .before .loop .inv .0 .well) (sym (c .before .before .number-at .ensures) ∙ c .enum-told .given .1))
+returns c = absurd (never _ _ (c .before .before .before .loop-test .taken) (c .before .before .before .before .loop .inv .0 .well) (sym (c .before .before .read .ensures) ∙ c .enum-told .given .1))
 
 enum-known-v : tie.Need-enum-known-v Inv-loop μ-loop
 enum-known-v c = search needs
 
 cast-out : tie.Need-cast-out Inv-loop μ-loop
-cast-out c = record { fits = below-both _ 256 _ _ _ (c .before .before .before .before .loop-test .taken) (sym (c .before .before .before .number-at .ensures) ∙ c .before .v .given .1) (c .before .before .before .before .before .loop .inv .1) .0 }
+cast-out c = record { fits = below-both _ 256 _ _ _ (c .before .before .before .before .loop-test .taken) (sym (c .before .before .before .read .ensures) ∙ c .before .v .given .1) (c .before .before .before .before .before .loop .inv .1) .0 }
 
 slice-write-out : tie.Need-slice-write-out Inv-loop μ-loop
 slice-write-out c = filling-room (c .before .before .before .before .before .loop .inv .0) (c .before .before .before .before .loop-test .taken)
@@ -44,11 +44,11 @@ add-i : tie.Need-add-i Inv-loop μ-loop
 add-i c = omega (arith, filling-room (c .before .before .before .before .before .loop .inv .0) (c .before .before .before .before .loop-test .taken))
 
 loop-less : tie.Need-loop-less Inv-loop μ-loop
-loop-less c = let n = next-place _ _ _ _ (c .before .before .before .before .loop-test .taken) (sym (c .before .before .before .number-at .ensures) ∙ c .before .v .given .1) in omega (arith, n)
+loop-less c = let n = next-place _ _ _ _ (c .before .before .before .before .loop-test .taken) (sym (c .before .before .before .read .ensures) ∙ c .before .v .given .1) in omega (arith, n)
 
 loop-again : tie.Need-loop-again Inv-loop μ-loop
 loop-again c =
-    let found = sym (c .before .before .before .number-at .ensures) ∙ c .before .v .given .1 in
+    let found = sym (c .before .before .before .read .ensures) ∙ c .before .v .given .1 in
     (filling-next (c .before .before .before .before .before .loop .inv .0) _ _ (c .before .before .before .before .loop-test .taken) found, below-both _ 256 _ _ _ (c .before .before .before .before .loop-test .taken) found (c .before .before .before .before .before .loop .inv .1) .1)
 
 same-length-2 : tie.Need-same-length-2 Inv-loop μ-loop
@@ -64,7 +64,7 @@ read-bytes-spec =
     Inv-loop
     μ-loop
     loop-holds
-    number-at-requires
+    read-requires
     enum-told
     same-length
     returns

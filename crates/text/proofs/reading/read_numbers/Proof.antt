@@ -18,8 +18,8 @@ abbrev μ-loop : tie.MeasureT-loop
 loop-holds : tie.Need-loop-holds Inv-loop μ-loop
 loop-holds c = filling-start _ _ (c .before .before .pre)
 
-number-at-requires : tie.Need-number-at-requires Inv-loop μ-loop
-number-at-requires c κs = omega arith
+read-requires : tie.Need-read-requires Inv-loop μ-loop
+read-requires c κs = omega arith
 
 enum-told : tie.Need-enum-told Inv-loop μ-loop
 enum-told c = search needs
@@ -28,7 +28,7 @@ same-length : tie.Need-same-length Inv-loop μ-loop
 same-length c = c .before .before .before .before .loop .inv .same
 
 returns : tie.Need-returns Inv-loop μ-loop
-returns c = absurd (never _ _ (c .before .before .before .loop-test .taken) (c .before .before .before .before .loop .inv .well) (sym (c .before .before .number-at .ensures) ∙ c .enum-told .given .1))
+returns c = absurd (never _ _ (c .before .before .before .loop-test .taken) (c .before .before .before .before .loop .inv .well) (sym (c .before .before .read .ensures) ∙ c .enum-told .given .1))
 
 enum-known-v : tie.Need-enum-known-v Inv-loop μ-loop
 enum-known-v c = search needs
@@ -43,10 +43,10 @@ add-i : tie.Need-add-i Inv-loop μ-loop
 add-i c = omega (arith, filling-room (c .before .before .before .before .before .loop .inv) (c .before .before .before .before .loop-test .taken))
 
 loop-less : tie.Need-loop-less Inv-loop μ-loop
-loop-less c = let n = next-place _ _ _ _ (c .before .before .before .before .loop-test .taken) (sym (c .before .before .before .number-at .ensures) ∙ c .before .v .given .1) in omega (arith, n)
+loop-less c = let n = next-place _ _ _ _ (c .before .before .before .before .loop-test .taken) (sym (c .before .before .before .read .ensures) ∙ c .before .v .given .1) in omega (arith, n)
 
 loop-again : tie.Need-loop-again Inv-loop μ-loop
-loop-again c = filling-next (c .before .before .before .before .before .loop .inv) _ _ (c .before .before .before .before .loop-test .taken) (sym (c .before .before .before .number-at .ensures) ∙ c .before .v .given .1)
+loop-again c = filling-next (c .before .before .before .before .before .loop .inv) _ _ (c .before .before .before .before .loop-test .taken) (sym (c .before .before .before .read .ensures) ∙ c .before .v .given .1)
 
 same-length-2 : tie.Need-same-length-2 Inv-loop μ-loop
 same-length-2 c = c .before .loop .inv .same
@@ -61,7 +61,7 @@ read-numbers-spec =
     Inv-loop
     μ-loop
     loop-holds
-    number-at-requires
+    read-requires
     enum-told
     same-length
     returns

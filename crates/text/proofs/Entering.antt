@@ -1,0 +1,149 @@
+-- The entries of a text: the names line that empties the store, and an entry line, from what the code tests and answers.
+--     store-small                        the size of the store
+--     cleared                            a store that is all zeros
+--     names-thirteen, names-passed, pair-thirteen, pair-passed       the names lines
+--     entry-thirteen, entry-number, entry-store                      an entry, filed
+--     entries-refuses, entries-reaches   an entry line, at its place in the buffers
+-- Assumes nothing.
+use mathlib.Core.Path.{_≡_, refl, sym, ap, _∙_}
+use mathlib.Core.Bool.{Bool, true, false, true≢false}
+use mathlib.Core.List.{List, [], _∷_, _++_, append-nil}
+use Prim.Native.Nat.{ℕ, zero, suc, _+_, _*_, _≤_}
+use native.Mathlib.Nat.{mul-le-mul, le-antisymm}
+use native.Mathlib.Omega.{arith}
+use lib.ListN.{length, take, drop, replicate, length-replicate, drop-of-length-le}
+use lib.Seq.{take-at, length-take-le}
+use Rattle.lists.specs.Places.{at}
+use Rattle.plan.specs.declared.numbers.Plan.{Plan}
+use Rattle.plan.specs.Causes.{first, result}
+use Rattle.plan.specs.Numbers.{columns}
+use Rattle.plan.specs.Rows.{entryCause}
+use Rattle.plan.proofs.Refusals.{none-met}
+use Rattle.store.specs.Elimination.{Outcome, new, implied, contradiction, outcome, cells}
+use Rattle.store.specs.Filings.{isContradiction}
+use Rattle.store.specs.Calls.{equation, storeFits, storeCause, valueCause, conflictCause, fileCauses, answered, numberOf, filed}
+use Rattle.store.specs.declared.elimination.Filed.{Filed}
+use Rattle.text.specs.Lines.{asks, numbers, same}
+use Rattle.text.specs.Meaning.{names, header, entryNames, entries, next, cause, unless, planNames, pairNames, judged}
+use Rattle.text.specs.Progress.{entryCauses, entered}
+use Rattle.text.proofs.Judging.{refuses, reaches}
+
+store-fits : (c : ℕ) → c ≤ 255 → c * (c + 1) ≤ 65280
+store-fits c h = let l : c + 1 ≤ 256 = omega arith in mul-le-mul h l
+
+pub store-small : (n c : ℕ) → n ≡ c → c ≤ 255 → n * (n + 1) ≤ 65280
+store-small n c e h = rw e (store-fits c h)
+
+pub cleared : (i : ℕ) (e xs : List ℕ) → xs ≡ replicate i 0 ++ drop i e → i ≤ length e → length e ≤ i → xs ≡ replicate (length e) 0
+cleared i e xs h low high =
+    h
+    ∙ ap (λ (l : List ℕ). replicate i 0 ++ l) (drop-of-length-le e high)
+    ∙ append-nil (replicate i 0)
+    ∙ ap (λ (n : ℕ). replicate n 0) (le-antisymm low high)
+
+pub names-thirteen : (line : List ℕ) → same line planNames ≡ false → cause 13 ≡ judged names line
+unfolding judged
+names-thirteen line e = rw e
+
+pub names-passed : (line : List ℕ) → same line planNames ≡ true → next header ≡ judged names line
+unfolding judged
+names-passed line e = rw e
+
+-- the filled part of the store, where its front has been lent and written
+front : (S part : List ℕ) (size n : ℕ) → size ≡ n → length part ≡ size → take n (part ++ drop size S) ≡ part
+front S part size n e h = take-at part (drop size S) n (h ∙ e)
+
+module _ (P : Plan) (w T d : List ℕ) (line : List ℕ) where
+  pub pair-thirteen : same line pairNames ≡ false → cause 13 ≡ judged (entryNames P w T d) line
+  unfolding judged
+  pair-thirteen e = rw e
+
+  pub pair-passed : (S part : List ℕ) (size : ℕ) → same line pairNames ≡ true → size ≡ columns P * (columns P + 1) → size ≤ length S
+      → part ≡ replicate (length (take size S)) 0 → next (entries P w T d (take (columns P * (columns P + 1)) (part ++ drop size S))) ≡ judged (entryNames P w T d) line
+  unfolding judged
+  pair-passed S part size e h l z =
+      let whole : part ≡ replicate size 0 = z ∙ ap (λ (n : ℕ). replicate n 0) (length-take-le size S l) in
+      rw e
+      (ap (λ (s : List ℕ). next (entries P w T d s))
+      (front S part size (columns P * (columns P + 1)) h (ap length whole ∙ length-replicate size 0) ∙ whole ∙ ap (λ (n : ℕ). replicate n 0) h))
+
+-- a filing that meets no cause is no contradiction
+number-answered : (k : ℕ) (o : Outcome) → (k ≡ 0 → isContradiction o ≡ false) → numberOf (answered k o) ≡ k
+unfolding answered
+number-answered zero (new c) h = refl
+number-answered zero implied h = refl
+number-answered zero contradiction h = let z : true ≡ false = h refl in absurd (true≢false z)
+number-answered (suc k) o h = refl
+
+-- filing's own causes: where none is met, the last is not
+last-unmet : (a b c x : Bool) → first ((6, a) ∷ (7, b) ∷ (8, c) ∷ (9, x) ∷ []) ≡ 0 → x ≡ false
+last-unmet true b c x e = absurd (omega arith)
+last-unmet false true c x e = absurd (omega arith)
+last-unmet false false true x e = absurd (omega arith)
+last-unmet false false false true e = absurd (omega arith)
+last-unmet false false false false e = refl
+
+module _ (P : Plan) (w T d S : List ℕ) (i v : ℕ) where
+  causes : ℕ
+  causes = first (fileCauses (P .p) (P .s) (P .n) (P .m) (P .t) w T d S i v)
+
+  out : Outcome
+  out = outcome (P .p) (columns P) (cells (columns P) S) (equation P w T d i v)
+
+  no-conflict : causes ≡ 0 → isContradiction out ≡ false
+  unfolding causes out fileCauses
+  no-conflict e =
+      last-unmet (storeCause P S .1) (entryCause P i .1) (valueCause P v .1) (conflictCause P w T d S i v .1)
+      (none-met (P .p) (P .s) (P .n) (P .m) (P .t) w T d (λ Q. storeFits Q S)
+      (λ Q. storeCause Q S ∷ entryCause Q i ∷ valueCause Q v ∷ conflictCause Q w T d S i v ∷ []) e .2)
+
+  filed-number : numberOf (answered (first (fileCauses (P .p) (P .s) (P .n) (P .m) (P .t) w T d S i v)) (outcome (P .p) (columns P) (cells (columns P) S) (equation P w T d i v))) ≡ first (fileCauses (P .p) (P .s) (P .n) (P .m) (P .t) w T d S i v)
+  unfolding causes out
+  filed-number = number-answered causes out no-conflict
+
+module _ (P : Plan) (w T d S line : List ℕ) where
+  pub entry-thirteen : asks 2 line ≡ false → 13 ≡ first (entryCauses P w T d S line)
+  entry-thirteen e = rw e
+
+  passed : asks 2 line ≡ true → first (fileCauses (P .p) (P .s) (P .n) (P .m) (P .t) w T d S (at (numbers line) 0) (at (numbers line) 1)) ≡ first (entryCauses P w T d S line)
+  passed e = rw e
+
+  module _ (ns : List ℕ) (read : ns ≡ numbers line) (asks2 : asks 2 line ≡ true) where
+    pub entry-number : (r : ℕ) (f : Filed) → r ≡ numberOf f
+        → f ≡ answered (first (fileCauses (P .p) (P .s) (P .n) (P .m) (P .t) w T d S (at ns 0) (at ns 1))) (outcome (P .p) (columns P) (cells (columns P) S) (equation P w T d (at ns 0) (at ns 1)))
+        → r ≡ first (entryCauses P w T d S line)
+    entry-number r f e h =
+        e ∙ ap numberOf h ∙ filed-number P w T d S (at ns 0) (at ns 1)
+        ∙ ap (λ (l : List ℕ). first (fileCauses (P .p) (P .s) (P .n) (P .m) (P .t) w T d S (at l 0) (at l 1))) read
+        ∙ passed asks2
+
+    pub entry-store : (r : ℕ) (S′ : List ℕ) → r ≡ first (entryCauses P w T d S line)
+        → S′ ≡ result (first (fileCauses (P .p) (P .s) (P .n) (P .m) (P .t) w T d S (at ns 0) (at ns 1))) (filed P w T d S (at ns 0) (at ns 1)) S
+        → S′ ≡ result r (entered P w T d S line) S
+    entry-store r S′ e h =
+        h
+        ∙ ap (λ (l : List ℕ). result (first (fileCauses (P .p) (P .s) (P .n) (P .m) (P .t) w T d S (at l 0) (at l 1))) (filed P w T d S (at l 0) (at l 1)) S) read
+        ∙ ap (λ (k : ℕ). result k (entered P w T d S line) S) (passed asks2 ∙ sym e)
+
+-- an entry line in the buffers: the store is the first `size` bytes of its buffer
+module _ (P : Plan) (w T d S line : List ℕ) (r size : ℕ) (sized : size ≡ columns P * (columns P + 1)) (e : r ≡ first (entryCauses P w T d (take size S) line)) where
+  at-columns : r ≡ first (entryCauses P w T d (take (columns P * (columns P + 1)) S) line)
+  at-columns = e ∙ ap (λ (n : ℕ). first (entryCauses P w T d (take n S) line)) sized
+
+  pub entries-refuses : (r ≡ 0 → ⊥) → cause r ≡ judged (entries P w T d (take (columns P * (columns P + 1)) S)) line
+  unfolding judged
+  entries-refuses h =
+      refuses r (entries P w T d (entered P w T d (take (columns P * (columns P + 1)) S) line)) h
+      ∙ ap (λ (k : ℕ). unless k (entries P w T d (entered P w T d (take (columns P * (columns P + 1)) S) line))) at-columns
+
+  pub entries-reaches : (part : List ℕ) → r ≡ 0 → size ≤ length S → part ≡ result r (entered P w T d (take size S) line) (take size S) → length part ≡ length (take size S)
+      → next (entries P w T d (take (columns P * (columns P + 1)) (part ++ drop size S))) ≡ judged (entries P w T d (take (columns P * (columns P + 1)) S)) line
+  unfolding judged
+  entries-reaches part z l q same-size =
+      ap (λ (s : List ℕ). next (entries P w T d s))
+      (front S part size (columns P * (columns P + 1)) sized (same-size ∙ length-take-le size S l)
+      ∙ q
+      ∙ ap (λ (k : ℕ). result k (entered P w T d (take size S) line) (take size S)) z
+      ∙ ap (λ (n : ℕ). entered P w T d (take n S) line) sized)
+      ∙ reaches r (entries P w T d (entered P w T d (take (columns P * (columns P + 1)) S) line)) z
+      ∙ ap (λ (k : ℕ). unless k (entries P w T d (entered P w T d (take (columns P * (columns P + 1)) S) line))) at-columns

@@ -1,0 +1,196 @@
+-- Every line that is not refused keeps what has been read as the plan asks for it.
+--     sound-judged     one line
+--     sound-pushes     the bytes of a text
+--     lent             at the entries, the parts are as lent to any call
+-- Assumes nothing.
+use mathlib.Core.Path.{_≡_, refl, sym, ap, subst, _∙_}
+use mathlib.Core.Bool.{Bool, true, false, cond, not, _&&_}
+use mathlib.Core.List.{List, [], _∷_, _++_, map}
+use Prim.Native.Nat.{ℕ, zero, suc, _+_, _*_, _≤_, _<_}
+use native.Mathlib.Nat.{le-antisymm}
+use native.Mathlib.Omega.{arith}
+use lib.Dec.{eqb, ltb}
+use lib.ListN.{length, length-append, length-map}
+use borrow.Author.Tests.{ltb-true, ltb-false, not-false}
+use Rattle.lists.specs.Places.{sum, every, at}
+use Rattle.lists.proofs.Sums.{sum-suc}
+use Rattle.lists.proofs.Tests.{both-true, both}
+use Rattle.field.specs.Rows.{allBelow}
+use Rattle.field.proofs.Ranges.{residues-of}
+use Rattle.plan.specs.declared.numbers.Plan.{Plan}
+use Rattle.plan.specs.Causes.{first}
+use Rattle.plan.specs.Numbers.{variables, columns, numberCauses, Within}
+use Rattle.plan.specs.Parts.{linkStart, Lent}
+use Rattle.plan.proofs.Bounds.{prime-low}
+use Rattle.plan.proofs.Refusals.{within-of, first-none}
+use Rattle.store.specs.Stages.{Ready}
+use Rattle.store.specs.Calls.{fileCauses, filed}
+use Rattle.store.proofs.Readiness.{empty-ready, value-below, filed-ready}
+use Rattle.text.specs.Lines.{cutAt, number, asks, numbers, same}
+use Rattle.text.specs.Words.{partCauses}
+use Rattle.text.specs.Meaning.{Place, names, header, weights, table, product, entryNames, entries, Judged, next, cause, unless, afterLinks, afterProducts, headerCauses, headerPlan, judged, planNames, pairNames}
+use Rattle.text.specs.Streaming.{State, reading, stopped, turned, push, pushes, hold}
+use Rattle.text.specs.Progress.{Planned}
+use Rattle.text.specs.Sound.{Parts, Sound, SoundState}
+use Rattle.text.proofs.LineLaws.{below-cons}
+use Rattle.text.proofs.Filling.{asked}
+
+-- a line after which there is a next place met none of its causes
+unless-next : (k : ℕ) (place after : Place) → unless k place ≡ next after → (k ≡ 0) × (place ≡ after)
+unless-next zero place after e = (refl, cc)
+unless-next (suc k) place after e = let z : _≡_ {A = ℕ} 0 1 = cc in absurd (omega arith)
+
+-- a cause that comes first and is not met leaves the others
+passed : (k : ℕ) (b : Bool) (rest : ℕ) → 0 < k → cond b k rest ≡ 0 → (b ≡ false) × (rest ≡ 0)
+passed k true rest l e = absurd (omega arith)
+passed k false rest l e = (refl, e)
+
+below-append : (p : ℕ) (xs ys : List ℕ) → allBelow p xs ≡ true → allBelow p ys ≡ true → allBelow p (xs ++ ys) ≡ true
+below-append p [] ys hx hy = hy
+below-append p (x ∷ xs) ys hx hy =
+    let h = both-true (ltb x p) (allBelow p xs) (sym (below-cons p x xs) ∙ hx) in
+    below-cons p x (xs ++ ys) ∙ both (ltb x p) (allBelow p (xs ++ ys)) (h .0) (below-append p xs ys (h .1) hy)
+
+-- a line of a part: as many numbers as asked for, all below p
+part-line : (n p : ℕ) (line : List ℕ) → first (partCauses n p line) ≡ 0 → (length (numbers line) ≡ n) × (allBelow p (numbers line) ≡ true)
+unfolding numbers
+part-line n p line e =
+    let a = passed 13 (not (asks n line)) (first ((5, not (allBelow p (numbers line))) ∷ [])) (omega arith) e in
+    let b = passed 5 (not (allBelow p (numbers line))) 0 (omega arith) (a .1) in
+    (length-map (cutAt 32 line) number ∙ asked n line (not-false (asks n line) (a .0)) .1, not-false (allBelow p (numbers line)) (b .0))
+
+module _ (P : Plan) where
+  sound-products : (b : ℕ) (w T d : List ℕ) → b ≤ P .t → Parts P (P .m) (P .m) b w T d → Sound (afterProducts P b w T d)
+  unfolding Sound
+  sound-products b w T d l parts = by (ltb b (P .t)) refl
+    where
+      by : (c : Bool) → ltb b (P .t) ≡ c → Sound (cond c (product P b w T d) (entryNames P w T d))
+      by true e = (ltb-true b (P .t) e, parts)
+      by false e = subst (λ (k : ℕ). Parts P (P .m) (P .m) k w T d) (le-antisymm l (ltb-false b (P .t) e)) parts
+
+  sound-links : (k : ℕ) (w T : List ℕ) → k ≤ P .m → Parts P k k 0 w T [] → Sound (afterLinks P k w T)
+  unfolding Sound
+  sound-links k w T l parts = by (ltb k (P .m)) refl
+    where
+      by : (c : Bool) → ltb k (P .m) ≡ c → Sound (cond c (weights P k w T) (afterProducts P 0 w T []))
+      by true e = (ltb-true k (P .m) e, parts)
+      by false e =
+          sound-products 0 w T [] (omega arith) (subst (λ (i : ℕ). Parts P i i 0 w T []) (le-antisymm l (ltb-false k (P .m) e)) parts)
+
+  no-parts : Planned P → Parts P 0 0 0 [] [] []
+  unfolding every sum
+  no-parts h =
+      record {
+        planned = h;
+        weights-length = refl;
+        tables-length = omega arith;
+        products-length = omega arith;
+        weights-below = refl;
+        tables-below = refl;
+        products-below = refl;
+      }
+
+  module _ {k l b : ℕ} {w T d : List ℕ} (parts : Parts P k l b w T d) (line : List ℕ) where
+    more-weights : first (partCauses (P .n + k) (P .p) line) ≡ 0 → Parts P (suc k) l b (w ++ numbers line) T d
+    more-weights e =
+        let h = part-line (P .n + k) (P .p) line e in
+        record {
+          planned = parts .planned;
+          weights-length = length-append w (numbers line) ∙ rw (parts .weights-length, h .0) (sym (sum-suc (λ i. P .n + i) k));
+          tables-length = parts .tables-length;
+          products-length = parts .products-length;
+          weights-below = below-append (P .p) w (numbers line) (parts .weights-below) (h .1);
+          tables-below = parts .tables-below;
+          products-below = parts .products-below;
+        }
+
+    more-tables : first (partCauses (P .p) (P .p) line) ≡ 0 → Parts P k (suc l) b w (T ++ numbers line) d
+    more-tables e =
+        let h = part-line (P .p) (P .p) line e in
+        record {
+          planned = parts .planned;
+          weights-length = parts .weights-length;
+          tables-length = length-append T (numbers line) ∙ rw (parts .tables-length, h .0) (omega arith);
+          products-length = parts .products-length;
+          weights-below = parts .weights-below;
+          tables-below = below-append (P .p) T (numbers line) (parts .tables-below) (h .1);
+          products-below = parts .products-below;
+        }
+
+    more-products : first (partCauses (variables P) (P .p) line) ≡ 0 → Parts P k l (suc b) w T (d ++ numbers line)
+    more-products e =
+        let h = part-line (variables P) (P .p) line e in
+        record {
+          planned = parts .planned;
+          weights-length = parts .weights-length;
+          tables-length = parts .tables-length;
+          products-length = length-append d (numbers line) ∙ rw (parts .products-length, h .0) (omega arith);
+          weights-below = parts .weights-below;
+          tables-below = parts .tables-below;
+          products-below = below-append (P .p) d (numbers line) (parts .products-below) (h .1);
+        }
+
+  pub lent : {w T d : List ℕ} → Parts P (P .m) (P .m) (P .t) w T d → Lent P w T d
+  lent {w} {T} {d} parts =
+      let pos : 0 < P .p = omega (arith, prime-low (parts .planned .0)) in
+      record {
+        weights-length = parts .weights-length;
+        tables-length = parts .tables-length;
+        products-length = parts .products-length;
+        weights-residues = residues-of (P .p) w pos (parts .weights-below);
+        tables-residues = residues-of (P .p) T pos (parts .tables-below);
+        products-residues = residues-of (P .p) d pos (parts .products-below);
+      }
+
+-- the values line: its plan is within its limits, and C at most 255
+planned-of : (P : Plan) → first (headerCauses P) ≡ 0 → Planned P
+planned-of P e =
+    let h = first-none (numberCauses (P .p) (P .s) (P .n) (P .m) (P .t)) ((14, ltb 255 (columns P)) ∷ []) (omega arith) e in
+    (within-of (P .p) (P .s) (P .n) (P .m) (P .t) (h .0), ltb-false 255 (columns P) (passed 14 (ltb 255 (columns P)) 0 (omega arith) (h .1) .0))
+
+pub sound-judged : (place : Place) (line : List ℕ) (after : Place) → Sound place → judged place line ≡ next after → Sound after
+unfolding judged Sound
+sound-judged names line after s e = subst Sound (unless-next (first ((13, not (same line planNames)) ∷ [])) header after e .1) tt
+sound-judged header line after s e =
+    let P = headerPlan (numbers line) in
+    let u = unless-next (first ((13, not (asks 5 line)) ∷ headerCauses P)) (afterLinks P 0 [] []) after e in
+    let h = passed 13 (not (asks 5 line)) (first (headerCauses P)) (omega arith) (u .0) in
+    subst Sound (u .1) (sound-links P 0 [] [] (omega arith) (no-parts P (planned-of P (h .1))))
+sound-judged (weights P k w T) line after s e =
+    let u = unless-next (first (partCauses (P .n + k) (P .p) line)) (table P k (w ++ numbers line) T) after e in
+    subst Sound (u .1) (s .0, more-weights P (s .1) line (u .0))
+sound-judged (table P k w T) line after s e =
+    let u = unless-next (first (partCauses (P .p) (P .p) line)) (afterLinks P (suc k) w (T ++ numbers line)) after e in
+    subst Sound (u .1) (sound-links P (suc k) w (T ++ numbers line) (omega (arith, s .0)) (more-tables P (s .1) line (u .0)))
+sound-judged (product P b w T d) line after s e =
+    let u = unless-next (first (partCauses (variables P) (P .p) line)) (afterProducts P (suc b) w T (d ++ numbers line)) after e in
+    subst Sound (u .1) (sound-products P (suc b) w T (d ++ numbers line) (omega (arith, s .0)) (more-products P (s .1) line (u .0)))
+sound-judged (entryNames P w T d) line after s e =
+    let u = unless-next (first ((13, not (same line pairNames)) ∷ [])) (entries P w T d _) after e in
+    subst Sound (u .1) (s, empty-ready P (s .planned .0))
+sound-judged (entries P w T d S) line after s e =
+    let i = at (numbers line) 0 in
+    let v = at (numbers line) 1 in
+    let u = unless-next (first ((13, not (asks 2 line)) ∷ fileCauses (P .p) (P .s) (P .n) (P .m) (P .t) w T d S i v)) (entries P w T d (filed P w T d S i v)) after e in
+    let h = passed 13 (not (asks 2 line)) (first (fileCauses (P .p) (P .s) (P .n) (P .m) (P .t) w T d S i v)) (omega arith) (u .0) in
+    let within : Within P = s .0 .planned .0 in
+    subst Sound (u .1)
+    (s .0, filed-ready P w T d S i v within (lent P (s .0)) (omega (arith, value-below P w T d S i v (h .1), within .radix-high)) (s .1))
+
+sound-push : (state : State) (x : ℕ) → SoundState state → SoundState (push state x)
+unfolding push SoundState
+sound-push (reading j held place) x s = by (eqb x 10)
+  where
+    line : (o : Judged) → judged place held ≡ o → SoundState (turned j o)
+    line (next after) e = sound-judged place held after s e
+    line (cause k) e = tt
+
+    by : (b : Bool) → SoundState (cond b (turned j (judged place held)) (reading j (hold held x) place))
+    by true = line (judged place held) refl
+    by false = s
+sound-push (stopped k j) x s = tt
+
+pub sound-pushes : (state : State) (xs : List ℕ) → SoundState state → SoundState (pushes state xs)
+unfolding pushes
+sound-pushes state [] s = s
+sound-pushes state (x ∷ xs) s = sound-pushes (push state x) xs (sound-push state x s)

@@ -1,0 +1,118 @@
+-- `text::ending::finish` meets its contract, by the stage and whether bytes are held. Assumes nothing.
+use mathlib.Core.Path.{_≡_, sym}
+use mathlib.Core.List.{List}
+use Prim.Native.Nat.{ℕ, _≤_}
+use native.Mathlib.Omega.{arith}
+use lib.ListN.{length, take}
+use lib.Seq.{length-take-le}
+use Rattle.plan.specs.declared.numbers.Plan.{Plan}
+use Rattle.text.specs.Progress.{Planned}
+use Rattle.text.proofs.Finishing.{not-stopped, not-entries, finish-stopped, finish-broken, finish-early, finish-filed, entries-inside, filed-sound, prints}
+use borrow.Author.Needs.{needs}
+use Rattle.text.proofs.ending.finish.Statement.{statement}
+use Rattle.text.proofs.ending.finish.Tie as tie
+
+abbrev start : tie.At-match-keys2 → tie.Start
+start c = c .before .before .before .before .before .before .before .before
+
+abbrev entries : tie.After-stage2 → tie.Start
+entries c = start (c .before .before .before .before)
+
+-- at the entries: the plan, and how much is filled of the weights, tables and product weights
+abbrev thePlan : tie.After-stage2 → Plan
+thePlan c = c .stage2 .given .0 .0
+
+abbrev w : tie.After-stage2 → ℕ
+w c = c .stage2 .given .0 .1 .0
+
+abbrev T : tie.After-stage2 → ℕ
+T c = c .stage2 .given .0 .1 .1 .0
+
+abbrev d : tie.After-stage2 → ℕ
+d c = c .stage2 .given .0 .1 .1 .1 .0
+
+inside : (c : tie.After-stage2) → Planned (thePlan c) × (w c ≤ length (entries c .args .weights .now)) × (d c ≤ length (entries c .args .d .now))
+inside c = let s = entries c in entries-inside (s .args .state) (s .args .line .now) (s .args .weights .now) (s .args .tables .now) (s .args .d .now) (s .args .store .now) (thePlan c) (w c) (T c) (d c) (c .stage2 .given .1) (s .pre .0) (s .pre .1 .1 .0)
+
+enum-known-stage : tie.Need-enum-known-stage
+enum-known-stage c = search needs
+
+print-refusal-requires : tie.Need-print-refusal-requires
+print-refusal-requires c κs = search needs
+
+same-length : tie.Need-same-length
+same-length c = search needs
+
+returns : tie.Need-returns
+returns c = prints _ _ _ _ _ (finish-stopped (c .before .before .before .before .before .before .before .before .before .before .before .before .before .before .args .state) (c .before .before .before .before .before .before .before .before .before .before .before .before .before .before .args .line .now) (c .before .before .before .before .before .before .before .before .before .before .before .before .before .before .args .weights .now) (c .before .before .before .before .before .before .before .before .before .before .before .before .before .before .args .tables .now) (c .before .before .before .before .before .before .before .before .before .before .before .before .before .before .args .d .now) (c .before .before .before .before .before .before .before .before .before .before .before .before .before .before .args .store .now) _ (c .before .before .before .before .before .stage .given .1)) (c .before .before .print-refusal .ensures .0) (c .before .before .print-refusal .ensures .1)
+
+print-refusal-requires-2 : tie.Need-print-refusal-requires-2
+print-refusal-requires-2 c κs = search needs
+
+same-length-2 : tie.Need-same-length-2
+same-length-2 c = search needs
+
+returns-2 : tie.Need-returns-2
+returns-2 c = prints _ _ _ _ _ (finish-broken (c .before .before .before .before .before .before .before .before .before .before .before .before .before .before .args .state) (c .before .before .before .before .before .before .before .before .before .before .before .before .before .before .args .line .now) (c .before .before .before .before .before .before .before .before .before .before .before .before .before .before .args .weights .now) (c .before .before .before .before .before .before .before .before .before .before .before .before .before .before .args .tables .now) (c .before .before .before .before .before .before .before .before .before .before .before .before .before .before .args .d .now) (c .before .before .before .before .before .before .before .before .before .before .before .before .before .before .args .store .now) (not-stopped _ (c .before .before .before .before .before .before .match .keys2)) (c .before .before .before .before .if1 .taken) (c .before .before .before .before .before .before .before .before .before .before .before .before .before .before .pre .1 .0 .0) (c .before .before .before .before .before .before .before .before .before .before .before .before .before .before .pre .1 .0 .1)) (c .before .before .print-refusal2 .ensures .0) (c .before .before .print-refusal2 .ensures .1)
+
+enum-known-stage-2 : tie.Need-enum-known-stage-2
+enum-known-stage-2 c = search needs
+
+store-size-requires : tie.Need-store-size-requires
+store-size-requires c κs = inside (c .before) .0
+
+slice-aggregate-print-filed : tie.Need-slice-aggregate-print-filed
+slice-aggregate-print-filed c = sym (length-take-le _ _ (inside (c .before .before .before) .1))
+
+slice-aggregate-print-filed-2 : tie.Need-slice-aggregate-print-filed-2
+slice-aggregate-print-filed-2 c = sym (length-take-le _ _ (inside (c .before .before .before .before) .2))
+
+slice-aggregate-print-filed-3 : tie.Need-slice-aggregate-print-filed-3
+slice-aggregate-print-filed-3 c = sym (length-take-le _ (c .before .before .before .before .before .before .before .before .before .before .before .before .before .before .before .before .before .args .store .now) (omega (arith, c .before .before .before .store-size .ensures .1, c .before .before .before .before .before .before .before .before .before .before .before .before .before .before .before .before .before .pre .1 .1 .0 .store-room)))
+
+print-filed-requires : tie.Need-print-filed-requires
+print-filed-requires c κs =
+    let s = filed-sound (c .before .before .before .before .before .before .before .before .before .before .before .before .before .before .before .before .before .before .before .args .state) (c .before .before .before .before .before .before .before .before .before .before .before .before .before .before .before .before .before .before .before .args .line .now) (c .before .before .before .before .before .before .before .before .before .before .before .before .before .before .before .before .before .before .before .args .weights .now) (c .before .before .before .before .before .before .before .before .before .before .before .before .before .before .before .before .before .before .before .args .tables .now) (c .before .before .before .before .before .before .before .before .before .before .before .before .before .before .before .before .before .before .before .args .d .now) (c .before .before .before .before .before .before .before .before .before .before .before .before .before .before .before .before .before .before .before .args .store .now) (thePlan (c .before .before .before .before .before .before .before)) (w (c .before .before .before .before .before .before .before)) (T (c .before .before .before .before .before .before .before)) (d (c .before .before .before .before .before .before .before)) _ (c .before .before .before .before .before .before .before .stage2 .given .1) (c .before .before .before .before .before .store-size .ensures .0) (c .before .before .before .before .before .before .before .before .before .before .before .before .before .before .before .before .before .before .before .pre .1 .1 .1 .0) in
+    (inside (c .before .before .before .before .before .before .before) .0 .0, ((s .0 .weights-length, s .0 .weights-residues), ((s .0 .products-length, s .0 .products-residues), (s .1, c .before .before .before .before .before .before .before .before .before .before .before .before .before .before .before .before .before .before .before .pre .1 .1 .1 .1))))
+
+same-length-3 : tie.Need-same-length-3
+same-length-3 c = search needs
+
+same-length-4 : tie.Need-same-length-4
+same-length-4 c = search needs
+
+returns-3 : tie.Need-returns-3
+returns-3 c = prints _ _ _ _ _ (finish-filed (c .before .before .before .before .before .before .before .before .before .before .before .before .before .before .before .before .before .before .before .before .before .before .before .before .args .state) (c .before .before .before .before .before .before .before .before .before .before .before .before .before .before .before .before .before .before .before .before .before .before .before .before .args .line .now) (c .before .before .before .before .before .before .before .before .before .before .before .before .before .before .before .before .before .before .before .before .before .before .before .before .args .weights .now) (c .before .before .before .before .before .before .before .before .before .before .before .before .before .before .before .before .before .before .before .before .before .before .before .before .args .tables .now) (c .before .before .before .before .before .before .before .before .before .before .before .before .before .before .before .before .before .before .before .before .before .before .before .before .args .d .now) (c .before .before .before .before .before .before .before .before .before .before .before .before .before .before .before .before .before .before .before .before .before .before .before .before .args .store .now) (c .before .before .before .before .before .before .before .before .before .before .before .before .before .before .if1 .left) (thePlan (c .before .before .before .before .before .before .before .before .before .before .before .before)) (w (c .before .before .before .before .before .before .before .before .before .before .before .before)) (T (c .before .before .before .before .before .before .before .before .before .before .before .before)) (d (c .before .before .before .before .before .before .before .before .before .before .before .before)) _ (c .before .before .before .before .before .before .before .before .before .before .before .before .stage2 .given .1) (c .before .before .before .before .before .before .before .before .before .before .store-size .ensures .0)) (c .before .before .before .before .print-filed .ensures .0) (c .before .before .before .before .print-filed .ensures .1)
+
+print-refusal-requires-3 : tie.Need-print-refusal-requires-3
+print-refusal-requires-3 c κs = search needs
+
+same-length-5 : tie.Need-same-length-5
+same-length-5 c = search needs
+
+returns-4 : tie.Need-returns-4
+returns-4 c = prints _ _ _ _ _ (finish-early (c .before .before .before .before .before .before .before .before .before .before .before .before .before .before .before .args .state) (c .before .before .before .before .before .before .before .before .before .before .before .before .before .before .before .args .line .now) (c .before .before .before .before .before .before .before .before .before .before .before .before .before .before .before .args .weights .now) (c .before .before .before .before .before .before .before .before .before .before .before .before .before .before .before .args .tables .now) (c .before .before .before .before .before .before .before .before .before .before .before .before .before .before .before .args .d .now) (c .before .before .before .before .before .before .before .before .before .before .before .before .before .before .before .args .store .now) (c .before .before .before .before .before .if1 .left) (not-stopped _ (c .before .before .before .before .before .before .before .match .keys2)) (not-entries _ (c .before .before .before .before .match2 .keys2))) (c .before .before .print-refusal3 .ensures .0) (c .before .before .print-refusal3 .ensures .1)
+
+pub finish-spec : {M : Type 1} → statement M
+finish-spec =
+    tie.close
+    (tie.spec
+    enum-known-stage
+    print-refusal-requires
+    same-length
+    returns
+    print-refusal-requires-2
+    same-length-2
+    returns-2
+    enum-known-stage-2
+    store-size-requires
+    slice-aggregate-print-filed
+    slice-aggregate-print-filed-2
+    slice-aggregate-print-filed-3
+    print-filed-requires
+    same-length-3
+    same-length-4
+    returns-3
+    print-refusal-requires-3
+    same-length-5
+    returns-4)

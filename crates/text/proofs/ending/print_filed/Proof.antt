@@ -1,0 +1,56 @@
+-- `text::ending::print_filed` meets its contract: the coefficients are read off into a local array. Assumes nothing.
+use mathlib.Core.Path.{_≡_, sym, ap, _∙_}
+use mathlib.Core.List.{List}
+use Prim.Native.Nat.{ℕ, _+_, _*_, _≤_}
+use lib.Seq.{length-take-le}
+use Rattle.listing.specs.Printed.{listing}
+use Rattle.store.proofs.StoreCalls.{columns-small}
+use Rattle.text.proofs.Finishing.{read-front, read-back, read-part, read-residues, prints}
+use borrow.Author.Needs.{needs}
+use Rattle.text.proofs.ending.print_filed.Statement.{statement}
+use Rattle.text.proofs.ending.print_filed.Tie as tie
+
+columns-requires : tie.Need-columns-requires
+columns-requires c κs = search needs
+
+array-borrow-prefix-beta : tie.Need-array-borrow-prefix-beta
+array-borrow-prefix-beta c = search needs
+
+slice-aggregate-read-off : tie.Need-slice-aggregate-read-off
+slice-aggregate-read-off c = sym (length-take-le _ _ (columns-small _ (c .before .before .before .before .before .before .before .pre .0) (c .before .columns .ensures)))
+
+read-off-requires : tie.Need-read-off-requires
+read-off-requires c κs = (columns-small _ (c .before .before .before .before .before .before .before .pre .0) (c .before .columns .ensures), (c .before .before .before .before .before .before .before .pre .1 .1 .1 .0 .places ∙ ap (λ (n : ℕ). n * (n + 1)) (sym (c .before .columns .ensures)), length-take-le _ _ (columns-small _ (c .before .before .before .before .before .before .before .pre .0) (c .before .columns .ensures))))
+
+array-share-prefix-beta : tie.Need-array-share-prefix-beta
+array-share-prefix-beta c = read-front (c .before .before .before .before .before .before .before .before .before .args .plan) (c .before .before .before .before .before .before .before .before .before .args .store .now) _ _ _ (c .before .before .before .columns .ensures) (c .before .read-off .ensures)
+
+slice-aggregate-print-program : tie.Need-slice-aggregate-print-program
+slice-aggregate-print-program c = read-part (c .before .before .before .before .before .before .before .before .before .before .args .plan) (c .before .before .before .before .before .before .before .before .before .before .args .store .now) _ _ _ (c .before .before .before .before .columns .ensures) (c .before .before .read-off .ensures)
+
+print-program-requires : tie.Need-print-program-requires
+print-program-requires c κs = (c .before .before .before .before .before .before .before .before .before .before .before .before .pre .0, (c .before .before .before .before .before .before .before .before .before .before .before .before .pre .1 .0, (c .before .before .before .before .before .before .before .before .before .before .before .before .pre .1 .1 .0, (read-residues (c .before .before .before .before .before .before .before .before .before .before .before .before .args .plan) (c .before .before .before .before .before .before .before .before .before .before .before .before .args .store .now) _ _ _ (c .before .before .before .before .before .before .columns .ensures) (c .before .before .before .before .read-off .ensures) (c .before .before .before .before .before .before .before .before .before .before .before .before .pre .0) (c .before .before .before .before .before .before .before .before .before .before .before .before .pre .1 .1 .1 .0), c .before .before .before .before .before .before .before .before .before .before .before .before .pre .1 .1 .1 .1))))
+
+same-length : tie.Need-same-length
+same-length c = search needs
+
+same-length-2 : tie.Need-same-length-2
+same-length-2 c = search needs
+
+returns : tie.Need-returns
+returns c = prints _ _ _ _ _ (ap (λ (β : List ℕ). listing (c .before .before .before .before .before .before .before .before .before .before .before .before .before .before .before .before .before .args .plan) (c .before .before .before .before .before .before .before .before .before .before .before .before .before .before .before .before .before .args .weights .now) (c .before .before .before .before .before .before .before .before .before .before .before .before .before .before .before .before .before .args .d .now) β) (read-back (c .before .before .before .before .before .before .before .before .before .before .before .before .before .before .before .before .before .args .plan) (c .before .before .before .before .before .before .before .before .before .before .before .before .before .before .before .before .before .args .store .now) _ _ _ (c .before .before .before .before .before .before .before .before .before .before .before .columns .ensures) (c .before .before .before .before .before .before .before .before .before .read-off .ensures))) (c .before .before .before .before .print-program .ensures .0) (c .before .before .before .before .print-program .ensures .1)
+
+pub print-filed-spec : {M : Type 1} → statement M
+print-filed-spec =
+    tie.close
+    (tie.spec
+    columns-requires
+    array-borrow-prefix-beta
+    slice-aggregate-read-off
+    read-off-requires
+    array-share-prefix-beta
+    slice-aggregate-print-program
+    print-program-requires
+    same-length
+    same-length-2
+    returns)

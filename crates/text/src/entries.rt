@@ -1,0 +1,128 @@
+// The entries of a text: the names line that empties the store, and the filing of each entry as it is read.
+ghost use mathlib.Core.Path.{_≡_};
+ghost use mathlib.Core.List.{List};
+ghost use Prim.Native.Nat.{ℕ, _+_, _*_, _≤_};
+ghost use lib.ListN.{length, take, replicate};
+ghost use Rattle.plan.specs.Numbers.{columns};
+ghost use Rattle.text.specs.Meaning as meaning;
+ghost use Rattle.plan.specs.Causes.{first, result};
+ghost use Rattle.store.specs.Calls.{numberOf};
+ghost use Rattle.text.specs.Progress.{judgedOf, Planned, Fits, entryCauses, entered};
+use crate::reading::asks;
+use crate::reading::read_numbers;
+use crate::reading::same;
+use crate::stages::Stage;
+use plan::Plan;
+use store::Filed;
+
+// The size of the store, C rows of C + 1 bytes.
+pub fn store_size(plan: Plan) -> usize
+    requires { ⌜ Planned plan ⌝ }
+    ensures { λ r. ⌜ (r ≡ columns plan * (columns plan + 1)) × (r ≤ 65280) ⌝ }
+{
+    let c = plan.columns();
+    c * (c + 1)
+}
+
+// All zeros.
+fn clear(store: &mut [u8])
+    ensures { λ _. ⌜ now (store .exit) ≡ replicate (length (now (store .entry))) 0 ⌝ }
+{
+    let mut i: usize = 0;
+    while i < store.len() {
+        store[i] = 0;
+        i += 1;
+    }
+}
+
+// The names line of the entries, behind which the store is empty.
+pub fn pair_line(plan: Plan, a: usize, b: usize, c: usize, line: &[u8], store: &mut [u8]) -> Stage
+    requires { ⌜ Fits (Stage.EntryNames plan a b c) ⌝ }
+    requires { ⌜ 65536 ≤ length (now store) ⌝ }
+    ensures { λ r. ⌜ Fits r ⌝ }
+    ensures { λ r. ⌜ ((w T d : List ℕ) → judgedOf r w T d (now (store .exit)) ≡ meaning.judged (meaning.entryNames plan (take a w) (take b T) (take c d)) (now (line .entry))) ⌝ }
+{
+    if !same(line, b"entry value") {
+        return Stage::Stopped(13);
+    }
+    let size = store_size(plan);
+    clear(&mut store[..size]);
+    Stage::Entries(plan, a, b, c)
+}
+
+// 01's number for an answer of filing: 0 where the entry is kept.
+fn number_of(filed: Filed) -> u8
+    ensures { λ r. ⌜ r ≡ numberOf filed ⌝ }
+{
+    match filed {
+        Filed::New(_) => 0,
+        Filed::Implied => 0,
+        Filed::Refused(k) => k,
+    }
+}
+
+// An entry: 13, then the causes of filing it, or 0 with the entry filed. A refusal leaves the store as it was.
+fn entry_line(
+    plan: Plan,
+    line: &[u8],
+    weights: &[u8],
+    tables: &[u8],
+    d: &[u8],
+    store: &mut [u8],
+) -> u8
+    ensures { λ r. ⌜ r ≡ first (entryCauses plan (now (weights .entry)) (now (tables .entry)) (now (d .entry)) (now (store .entry)) (now (line .entry))) ⌝ }
+    ensures { λ r. ⌜ now (store .exit) ≡ result r (entered plan (now (weights .entry)) (now (tables .entry)) (now (d .entry)) (now (store .entry)) (now (line .entry))) (now (store .entry)) ⌝ }
+{
+    if !asks(line, 2) {
+        return 13;
+    }
+    let mut v = [0usize; 2];
+    read_numbers(line, &mut v);
+    let filed = store::file(
+        plan.p as usize,
+        plan.s as usize,
+        plan.n,
+        plan.m,
+        plan.t,
+        weights,
+        tables,
+        d,
+        store,
+        v[0],
+        v[1],
+    );
+    number_of(filed)
+}
+
+// An entry line at its place in the buffers.
+pub fn entries_line(
+    plan: Plan,
+    a: usize,
+    b: usize,
+    c: usize,
+    line: &[u8],
+    weights: &[u8],
+    tables: &[u8],
+    d: &[u8],
+    store: &mut [u8],
+) -> Stage
+    requires { ⌜ Fits (Stage.Entries plan a b c) ⌝ }
+    requires { ⌜ (a ≤ length (now weights)) × (b ≤ length (now tables)) × (c ≤ length (now d)) ⌝ }
+    requires { ⌜ 65536 ≤ length (now store) ⌝ }
+    ensures { λ r. ⌜ Fits r ⌝ }
+    ensures { λ r. ⌜ judgedOf r (now (weights .entry)) (now (tables .entry)) (now (d .entry)) (now (store .exit)) ≡ meaning.judged (meaning.entries plan (take a (now (weights .entry))) (take b (now (tables .entry))) (take c (now (d .entry))) (take (columns plan * (columns plan + 1)) (now (store .entry)))) (now (line .entry)) ⌝ }
+{
+    let size = store_size(plan);
+    let cause = entry_line(
+        plan,
+        line,
+        &weights[..a],
+        &tables[..b],
+        &d[..c],
+        &mut store[..size],
+    );
+    if cause != 0 {
+        return Stage::Stopped(cause);
+    }
+    Stage::Entries(plan, a, b, c)
+}
