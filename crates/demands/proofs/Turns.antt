@@ -6,28 +6,24 @@
 --     holds-kept, holds-same       the state after it
 -- Assumes nothing.
 use mathlib.Core.Path.{_≡_, refl, sym, ap, subst, _∙_}
-use mathlib.Core.Bool.{Bool, true, false, cond, not, _&&_, true≢false, false≢true}
+use mathlib.Core.Bool.{Bool, true, false, cond, true≢false, false≢true}
 use mathlib.Core.List.{List, [], _∷_, _++_, List·Memᴰ, List·Memᴰ·head, List·Memᴰ·not-nil, List·Memᴰ·append-cases, List·Memᴰ·eq-of-singleton, Memᴰ·append-left, Memᴰ·append-right}
-use mathlib.Core.Logic.{_↔_, _⊎_, ⊎-elim}
-use Prim.Native.Nat.{ℕ, zero, suc, _+_, _*_, _%_, _≤_, _<_}
-use native.Mathlib.Decide.{decLt}
+use mathlib.Core.Logic.{_↔_, ⊎-elim}
+use Prim.Native.Nat.{ℕ, zero, suc, _+_, _*_, _≤_, _<_}
 use native.Mathlib.Omega.{arith}
-use lib.Dec.{eqb, ltb}
-use lib.ListN.{length, replicate, length-replicate, getD-replicate}
+use lib.Dec.{ltb}
+use lib.ListN.{length, length-replicate}
 use borrow.Author.Tests.{eq-eqb, lt-ltb, ltb-true, not-false}
 use Rattle.lists.specs.Places.{at}
-use Rattle.lists.proofs.Parts.{at-past}
 use Rattle.field.specs.Primes.{oddPrime}
-use Rattle.field.specs.Residues.{Residues}
 use Rattle.plan.specs.declared.numbers.Plan.{Plan}
 use Rattle.plan.specs.Causes.{first, result}
 use Rattle.plan.specs.Numbers.{columns, entries, Within}
 use Rattle.plan.specs.Parts.{Lent}
 use Rattle.plan.specs.Rows.{entryCause}
-use Rattle.plan.proofs.Refusals.{accepted-plan, accepted-parts, accepted-call, none-met, result-refused}
-use Rattle.store.specs.declared.elimination.Filed.{Filed}
-use Rattle.store.specs.declared.elimination.Filed.the-variants.{New, Implied, Refused}
-use Rattle.store.specs.Elimination.{Satisfies, Solves, Reduced, Outcome, new, implied, contradiction, outcome, after, cells, flat, isReduced}
+use Rattle.plan.proofs.Refusals.{accepted-plan, accepted-parts, accepted-call, result-refused}
+use Rattle.store.specs.declared.elimination.Filed.the-variants.{Refused}
+use Rattle.store.specs.Elimination.{Satisfies, Solves, Reduced, Outcome, new, implied, contradiction, outcome, after, cells, flat}
 use Rattle.store.specs.Filings.{empty, isContradiction}
 use Rattle.store.specs.Calls.{equation, storeFits, storeCause, valueCause, conflictCause, fileCauses, answered, filed}
 use Rattle.store.proofs.Bytes.{flat-length, cells-flat}
@@ -35,8 +31,9 @@ use Rattle.store.proofs.ReducedForm.{isReduced-means, reduced-ext}
 use Rattle.store.proofs.SamePlaces.{solves-ext}
 use Rattle.store.proofs.Filing.{after-reduced, after-solves}
 use Rattle.store.proofs.Filings.{empty-reduced, empty-solves}
+use Rattle.store.proofs.Readiness.{zeros-at, no-conflict}
 use Rattle.store.proofs.Contradictions.{contradiction-exactly}
-use Rattle.demands.specs.Demand3.{Given, Accepted, Call, Filing, call, refusal, answer, storeAfter, isKept, emptyStore, Reproduces, Contradicts, Ours}
+use Rattle.demands.specs.Demand3.{Given, Accepted, Call, call, refusal, answer, storeAfter, isKept, emptyStore, Reproduces, Contradicts, Ours}
 use Rattle.demands.proofs.Equations.{equation-row, satisfies-exactly}
 
 abbrev pub C : Given → ℕ
@@ -56,12 +53,6 @@ pub record Holds (G : Given) (S : List ℕ) (K : List (ℕ × ℕ)) : Type 0 whe
       ↔ ((i v : ℕ) → List·Memᴰ (i, v) K → Satisfies (p G) (C G) (eqOf G i v) β)
   pub ranges : (i v : ℕ) → List·Memᴰ (i, v) K → (i < entries (G .numbers)) × (v < G .numbers .s)
 
-zeros-at : (n k : ℕ) → at (replicate n 0) k ≡ 0
-zeros-at n k = elim (decLt k n) [
-  | yes l ↦ getD-replicate n k 0 0 l
-  | no l ↦ at-past (replicate n 0) k (rw length-replicate (omega arith))
-]
-
 -- a call that is not kept was refused
 positive-refusal : (k : ℕ) (o : Outcome) → (k ≡ 0 → isContradiction o ≡ false) → isKept (answered k o) ≡ false → 0 < k
 unfolding answered
@@ -70,19 +61,11 @@ positive-refusal zero implied h e = absurd (true≢false e)
 positive-refusal zero contradiction h e = absurd (true≢false (h refl))
 positive-refusal (suc k) o h e = omega arith
 
--- the four causes of filing after the plan's own: where none is met, the last is not
-last-unmet : (a b c e : Bool) → first ((6, a) ∷ (7, b) ∷ (8, c) ∷ (9, e) ∷ []) ≡ 0 → e ≡ false
-last-unmet true b c e h = absurd (omega arith)
-last-unmet false true c e h = absurd (omega arith)
-last-unmet false false true e h = absurd (omega arith)
-last-unmet false false false true h = absurd (omega arith)
-last-unmet false false false false h = refl
-
 pub unkept-same : (c : Call) → isKept (answer c) ≡ false → storeAfter c ≡ c .store
 unfolding refusal answer storeAfter fileCauses
 unkept-same c e =
     result-refused (refusal c) (filed P w T d (c .store) (c .entry) (c .value)) (c .store)
-    (positive-refusal (refusal c) (outcome (P .p) (columns P) (cells (columns P) (c .store)) (equation P w T d (c .entry) (c .value))) unmet e)
+    (positive-refusal (refusal c) (outcome (P .p) (columns P) (cells (columns P) (c .store)) (equation P w T d (c .entry) (c .value))) (no-conflict P w T d (c .store) (c .entry) (c .value)) e)
   where
     P : Plan
     P = c .lent .numbers
@@ -95,12 +78,6 @@ unkept-same c e =
 
     d : List ℕ
     d = c .lent .products
-
-    unmet : refusal c ≡ 0 → isContradiction (outcome (P .p) (columns P) (cells (columns P) (c .store)) (equation P w T d (c .entry) (c .value))) ≡ false
-    unmet z =
-        last-unmet (storeCause P (c .store) .1) (entryCause P (c .entry) .1) (valueCause P (c .value) .1) (conflictCause P w T d (c .store) (c .entry) (c .value) .1)
-        (none-met (P .p) (P .s) (P .n) (P .m) (P .t) w T d (λ Q. storeFits Q (c .store))
-        (λ Q. storeCause Q (c .store) ∷ entryCause Q (c .entry) ∷ valueCause Q (c .value) ∷ conflictCause Q w T d (c .store) (c .entry) (c .value) ∷ []) z .2)
 
 -- what is answered in range, by the outcome
 nine : (o : Outcome) → (answered (cond (isContradiction o) 9 0) o ≡ Refused 9) ↔ (o ≡ contradiction)

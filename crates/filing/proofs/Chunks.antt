@@ -4,10 +4,10 @@
 --     printed-fits         what was printed lies within the slice it was printed into
 -- Assumes nothing.
 use mathlib.Core.Path.{_≡_, refl, sym, ap, subst, _∙_}
-use mathlib.Core.List.{List, _++_}
+use mathlib.Core.List.{List}
 use Prim.Native.Nat.{ℕ, _+_, _*_, _≤_, _<_}
 use native.Mathlib.Omega.{arith}
-use lib.ListN.{length, take, drop, length-append, length-drop}
+use lib.ListN.{length, drop, length-append}
 use Rattle.lists.specs.Places.{placed}
 use Rattle.text.specs.Streaming.{start, pushes}
 use Rattle.text.specs.Progress.{Fits, stateOf, Room}

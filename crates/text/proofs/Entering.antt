@@ -6,8 +6,8 @@
 --     entries-refuses, entries-reaches   an entry line, at its place in the buffers
 -- Assumes nothing.
 use mathlib.Core.Path.{_≡_, refl, sym, ap, _∙_}
-use mathlib.Core.Bool.{Bool, true, false, true≢false}
-use mathlib.Core.List.{List, [], _∷_, _++_, append-nil}
+use mathlib.Core.Bool.{true, false, true≢false}
+use mathlib.Core.List.{List, _++_, append-nil}
 use Prim.Native.Nat.{ℕ, zero, suc, _+_, _*_, _≤_}
 use native.Mathlib.Nat.{mul-le-mul, le-antisymm}
 use native.Mathlib.Omega.{arith}
@@ -17,12 +17,11 @@ use Rattle.lists.specs.Places.{at}
 use Rattle.plan.specs.declared.numbers.Plan.{Plan}
 use Rattle.plan.specs.Causes.{first, result}
 use Rattle.plan.specs.Numbers.{columns}
-use Rattle.plan.specs.Rows.{entryCause}
-use Rattle.plan.proofs.Refusals.{none-met}
 use Rattle.store.specs.Elimination.{Outcome, new, implied, contradiction, outcome, cells}
 use Rattle.store.specs.Filings.{isContradiction}
-use Rattle.store.specs.Calls.{equation, storeFits, storeCause, valueCause, conflictCause, fileCauses, answered, numberOf, filed}
+use Rattle.store.specs.Calls.{equation, fileCauses, answered, numberOf, filed}
 use Rattle.store.specs.declared.elimination.Filed.{Filed}
+use Rattle.store.proofs.Readiness.{no-conflict}
 use Rattle.text.specs.Lines.{asks, numbers, same}
 use Rattle.text.specs.Meaning.{names, header, entryNames, entries, next, cause, unless, planNames, pairNames, judged}
 use Rattle.text.specs.Progress.{entryCauses, entered}
@@ -75,31 +74,11 @@ number-answered zero implied h = refl
 number-answered zero contradiction h = let z : true ≡ false = h refl in absurd (true≢false z)
 number-answered (suc k) o h = refl
 
--- filing's own causes: where none is met, the last is not
-last-unmet : (a b c x : Bool) → first ((6, a) ∷ (7, b) ∷ (8, c) ∷ (9, x) ∷ []) ≡ 0 → x ≡ false
-last-unmet true b c x e = absurd (omega arith)
-last-unmet false true c x e = absurd (omega arith)
-last-unmet false false true x e = absurd (omega arith)
-last-unmet false false false true e = absurd (omega arith)
-last-unmet false false false false e = refl
-
 module _ (P : Plan) (w T d S : List ℕ) (i v : ℕ) where
-  causes : ℕ
-  causes = first (fileCauses (P .p) (P .s) (P .n) (P .m) (P .t) w T d S i v)
-
-  out : Outcome
-  out = outcome (P .p) (columns P) (cells (columns P) S) (equation P w T d i v)
-
-  no-conflict : causes ≡ 0 → isContradiction out ≡ false
-  unfolding causes out fileCauses
-  no-conflict e =
-      last-unmet (storeCause P S .1) (entryCause P i .1) (valueCause P v .1) (conflictCause P w T d S i v .1)
-      (none-met (P .p) (P .s) (P .n) (P .m) (P .t) w T d (λ Q. storeFits Q S)
-      (λ Q. storeCause Q S ∷ entryCause Q i ∷ valueCause Q v ∷ conflictCause Q w T d S i v ∷ []) e .2)
-
   filed-number : numberOf (answered (first (fileCauses (P .p) (P .s) (P .n) (P .m) (P .t) w T d S i v)) (outcome (P .p) (columns P) (cells (columns P) S) (equation P w T d i v))) ≡ first (fileCauses (P .p) (P .s) (P .n) (P .m) (P .t) w T d S i v)
-  unfolding causes out
-  filed-number = number-answered causes out no-conflict
+  filed-number =
+      number-answered (first (fileCauses (P .p) (P .s) (P .n) (P .m) (P .t) w T d S i v)) (outcome (P .p) (columns P) (cells (columns P) S) (equation P w T d i v))
+      (no-conflict P w T d S i v)
 
 module _ (P : Plan) (w T d S line : List ℕ) where
   pub entry-thirteen : asks 2 line ≡ false → 13 ≡ first (entryCauses P w T d S line)

@@ -10,7 +10,7 @@
 -- Assumes nothing.
 use mathlib.Core.Path.{_≡_, refl, sym, ap, subst, _∙_}
 use mathlib.Core.List.{List, [], _∷_, _++_, append-nil}
-use Prim.Native.Nat.{ℕ, zero, suc, _+_, _-_, _*_, _/_, _≤_, _<_}
+use Prim.Native.Nat.{ℕ, _+_, _-_, _*_, _/_, _≤_, _<_}
 use native.Mathlib.Nat.{pos-of-ne-zero}
 use native.Mathlib.Omega.{arith}
 use lib.ListN.{length, take, drop, length-append, drop-of-length-le}
@@ -29,7 +29,7 @@ use Rattle.program.proofs.Shape.{layout-length}
 use Rattle.store.specs.Stages.{Ready}
 use Rattle.store.specs.Elimination.{readOff, cells}
 use Rattle.store.specs.Calls.{coefficients}
-use Rattle.store.proofs.ReadingOff.{solution, solution-residues}
+use Rattle.store.proofs.ReadingOff.{solution-residues}
 use Rattle.listing.specs.Printed.{listing, refused}
 use Rattle.listing.proofs.Rooms.{few-steps}
 use Rattle.text.specs.Meaning.{Judged, ended, meaning}

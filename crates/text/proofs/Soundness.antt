@@ -3,10 +3,10 @@
 --     sound-pushes     the bytes of a text
 --     lent             at the entries, the parts are as lent to any call
 -- Assumes nothing.
-use mathlib.Core.Path.{_≡_, refl, sym, ap, subst, _∙_}
-use mathlib.Core.Bool.{Bool, true, false, cond, not, _&&_}
-use mathlib.Core.List.{List, [], _∷_, _++_, map}
-use Prim.Native.Nat.{ℕ, zero, suc, _+_, _*_, _≤_, _<_}
+use mathlib.Core.Path.{_≡_, refl, sym, subst, _∙_}
+use mathlib.Core.Bool.{Bool, true, false, cond, not}
+use mathlib.Core.List.{List, [], _∷_, _++_}
+use Prim.Native.Nat.{ℕ, zero, suc, _+_, _≤_, _<_}
 use native.Mathlib.Nat.{le-antisymm}
 use native.Mathlib.Omega.{arith}
 use lib.Dec.{eqb, ltb}
@@ -20,10 +20,9 @@ use Rattle.field.proofs.Ranges.{residues-of}
 use Rattle.plan.specs.declared.numbers.Plan.{Plan}
 use Rattle.plan.specs.Causes.{first}
 use Rattle.plan.specs.Numbers.{variables, columns, numberCauses, Within}
-use Rattle.plan.specs.Parts.{linkStart, Lent}
+use Rattle.plan.specs.Parts.{Lent}
 use Rattle.plan.proofs.Bounds.{prime-low}
 use Rattle.plan.proofs.Refusals.{within-of, first-none}
-use Rattle.store.specs.Stages.{Ready}
 use Rattle.store.specs.Calls.{fileCauses, filed}
 use Rattle.store.proofs.Readiness.{empty-ready, value-below, filed-ready}
 use Rattle.text.specs.Lines.{cutAt, number, asks, numbers, same}
