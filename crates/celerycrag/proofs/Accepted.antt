@@ -1,16 +1,15 @@
 -- A call that was not refused had a plan within its limits. Assumes nothing.
-use mathlib.Core.Path.{_≡_, refl, sym, _∙_}
-use mathlib.Core.List.{List, [], _∷_}
+use mathlib.Core.Path.{_≡_, refl}
+use mathlib.Core.List.{List}
 use Prim.Native.Nat.{ℕ, zero, suc, _+_, _-_, _*_, _/_, _≤_}
 use native.Mathlib.Nat.{mul-le-mul}
 use native.Mathlib.Omega.{arith}
 use Rattle.plan.specs.Causes.{first}
 use Rattle.plan.specs.Numbers.{plan, Within}
-use Rattle.plan.specs.Rows.{entryCause}
 use Rattle.plan.proofs.Refusals.{within-of, none-met}
-use Rattle.store.specs.declared.elimination.Filed.the-variants.{New, Implied, Refused}
-use Rattle.store.specs.Elimination.{Outcome, new, implied, contradiction}
-use Rattle.store.specs.Calls.{storeFits, storeCause, valueCause, conflictCause, fileCauses, answered}
+use Rattle.store.specs.declared.elimination.Filed.the-variants.{Implied}
+use Rattle.store.specs.Elimination.{Outcome}
+use Rattle.store.specs.Calls.{fileCauses, answered}
 use Rattle.program.specs.Calls.{writeCauses}
 use Rattle.celerycrag.specs.Numbers.{lengthOf}
 

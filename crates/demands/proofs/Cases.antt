@@ -3,7 +3,6 @@
 use mathlib.Core.Path.{_≡_, refl}
 use mathlib.Core.List.{List, [], _∷_}
 use Prim.Native.Nat.{ℕ, _+_, _*_, _%_}
-use lib.ListN.{length}
 use Rattle.lists.specs.Places.{sum, tab, every, joined}
 use Rattle.field.specs.Primes.{isPrime, oddPrime}
 use Rattle.field.specs.Residues.{inverse, square, minusSquare}

@@ -3,16 +3,14 @@
 --     satisfies-exactly     a list satisfies it exactly when it reproduces the entry
 -- Assumes nothing.
 use mathlib.Core.Path.{_≡_, sym, ap, _∙_}
-use mathlib.Core.List.{List, [], _∷_, _++_}
+use mathlib.Core.List.{List, [], _∷_}
 use mathlib.Core.Logic.{_↔_}
 use Prim.Native.Nat.{ℕ, _*_, _%_, _≤_, _<_}
-use native.Mathlib.Decide.{decLt}
 use native.Mathlib.Omega.{arith}
-use lib.ListN.{length, List·getD-append}
+use lib.ListN.{List·getD-append}
 use lib.Seq.{getD-at}
 use Rattle.lists.specs.Places.{sum, at}
 use Rattle.lists.proofs.Sums.{sum-ext}
-use Rattle.field.specs.Residues.{Residues}
 use Rattle.field.proofs.Ranges.{residues-snoc}
 use Rattle.plan.specs.declared.numbers.Plan.{Plan}
 use Rattle.plan.specs.Numbers.{columns, Within}

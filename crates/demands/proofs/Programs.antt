@@ -1,8 +1,8 @@
 -- The program written from a store: reading off is accepted, the writer accepts what was read off, the run accepts what was written, and it
 -- answers Equation 1 on the coefficients read off, which solve the store and so reproduce each kept entry.
 -- Assumes nothing.
-use mathlib.Core.Path.{_≡_, refl, sym, ap, ap₂, subst⁻¹, _∙_}
-use mathlib.Core.Bool.{Bool, true, false, not, _&&_}
+use mathlib.Core.Path.{_≡_, sym, ap, ap₂, subst⁻¹, _∙_}
+use mathlib.Core.Bool.{not, _&&_}
 use mathlib.Core.List.{List, [], _∷_, List·Memᴰ}
 use Prim.Native.Nat.{ℕ, _+_, _*_, _%_, _≤_, _<_}
 use native.Mathlib.Nat.{mod-eq-of-lt}
@@ -18,7 +18,7 @@ use Rattle.field.proofs.Ranges.{below-of, residues-tab}
 use Rattle.plan.specs.Causes.{first, result}
 use Rattle.plan.specs.Numbers.{columns}
 use Rattle.plan.specs.Rows.{digit, values}
-use Rattle.plan.specs.Equation.{equation1, reproduced}
+use Rattle.plan.specs.Equation.{equation1}
 use Rattle.plan.proofs.Bounds.{prime-low}
 use Rattle.plan.proofs.Refusals.{accepted-call}
 use Rattle.plan.proofs.Digits.{digit-below}

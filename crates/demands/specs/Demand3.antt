@@ -21,7 +21,7 @@ use Rattle.lists.specs.Places.{tab}
 use Rattle.field.specs.Residues.{Residues}
 use Rattle.plan.specs.declared.numbers.Plan.{Plan}
 use Rattle.plan.specs.Causes.{first, result}
-use Rattle.plan.specs.Numbers.{columns, entries, plan}
+use Rattle.plan.specs.Numbers.{columns, entries}
 use Rattle.plan.specs.Parts.{callCauses}
 use Rattle.plan.specs.Rows.{digit}
 use Rattle.plan.specs.Equation.{reproduced}

@@ -16,7 +16,7 @@ use lib.Dec.{ltb}
 use lib.Arith.{digits-div, digits-mod}
 use lib.ListN.{length, take, drop}
 use borrow.Author.Tests.{lt-ltb, le-ltb}
-use Rattle.lists.specs.Places.{sum, tab, at}
+use Rattle.lists.specs.Places.{tab, at}
 use Rattle.lists.proofs.Sums.{sum-ext}
 use Rattle.lists.proofs.Tabs.{tab-length, tab-ext}
 use Rattle.lists.proofs.Parts.{part-at, cut-length}

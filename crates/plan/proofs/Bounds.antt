@@ -2,7 +2,7 @@
 --     prime-low, prime-high, modulus     3 ≤ p ≤ 251
 --     link-weights                       the number of link weights in closed form
 -- Assumes nothing.
-use mathlib.Core.Path.{_≡_, refl, ap, _∙_}
+use mathlib.Core.Path.{_≡_, ap}
 use Prim.Native.Nat.{ℕ, zero, suc, _+_, _-_, _*_, _/_, _≤_}
 use native.Mathlib.Omega.{arith}
 use Rattle.lists.specs.Places.{sum}
@@ -10,7 +10,6 @@ use Rattle.lists.proofs.Sums.{sum-zero, sum-suc}
 use Rattle.field.specs.Residues.{Modulus}
 use Rattle.field.proofs.PrimeTable.{oddPrime-means}
 use Rattle.plan.specs.Numbers.{Within}
-use Rattle.plan.specs.Parts.{linkStart}
 use Rattle.plan.specs.declared.numbers.Plan.{Plan}
 
 pub prime-low : {P : Plan} → Within P → 3 ≤ P .p

@@ -5,7 +5,7 @@
 --     link-of-parts                      a link's value from its part of the weights and its part of the tables
 --     Linked, linked-none, linked-next, linked-all       a loop that writes link after link behind the digits
 -- Assumes nothing.
-use mathlib.Core.Path.{_≡_, refl, sym, ap, ap₂, _∙_}
+use mathlib.Core.Path.{_≡_, sym, ap, ap₂, _∙_}
 use mathlib.Core.List.{List, [], _∷_, _++_}
 use Prim.Native.Nat.{ℕ, zero, suc, _+_, _-_, _*_, _%_, _≤_, _<_}
 use native.Mathlib.Nat.{add-zero, add-suc, add-sub-cancel-left, mul-le-mul-right, mod-lt}

@@ -1,6 +1,6 @@
 -- Digits: below the radix, and the weight of a digit from the weight of the digit before. Assumes nothing.
-use mathlib.Core.Path.{_≡_, refl, sym, ap, _∙_}
-use Prim.Native.Nat.{ℕ, zero, suc, _+_, _-_, _*_, _/_, _%_, _^_, _≤_, _<_}
+use mathlib.Core.Path.{_≡_}
+use Prim.Native.Nat.{ℕ, suc, _-_, _/_, _^_, _<_}
 use native.Mathlib.Nat.{mod-lt, pow-suc, mul-div-cancel, one-le-pow}
 use native.Mathlib.Omega.{arith}
 use Rattle.plan.specs.Numbers.{Within}

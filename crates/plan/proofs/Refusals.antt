@@ -26,7 +26,6 @@ use Rattle.plan.specs.Causes.{first, result}
 use Rattle.plan.specs.Numbers.{badRadix, outOfRange, numberCauses, variables, plan, answer, checked, Within}
 use Rattle.plan.specs.Parts.{linkStart, lengthsFit, valuesFit, partCauses, callCauses, Lent}
 use Rattle.plan.specs.declared.numbers.Plan.{Plan}
-use Rattle.plan.specs.declared.numbers.Checked.{Checked}
 use Rattle.plan.specs.declared.numbers.Checked.the-variants.{Accepted, Refused}
 use Rattle.plan.proofs.Bounds.{prime-low}
 

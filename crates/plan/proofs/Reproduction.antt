@@ -1,9 +1,9 @@
 -- A row times β is the right-hand side of Equation 1 modulo p. The sum over the C columns is cut into t + 1 blocks of L; in a product's
 -- block the weighted sum is a common factor, and the last block is the linear term.
 -- Assumes nothing.
-use mathlib.Core.Path.{_≡_, refl, sym, ap, ap₂, _∙_}
+use mathlib.Core.Path.{_≡_, ap, _∙_}
 use mathlib.Core.List.{List}
-use Prim.Native.Nat.{ℕ, suc, _+_, _*_, _%_, _<_}
+use Prim.Native.Nat.{ℕ, _+_, _*_, _%_, _<_}
 use native.Mathlib.Nat.{mul-comm}
 use native.Mathlib.Omega.{arith}
 use Rattle.lists.specs.Places.{sum, at}

@@ -16,7 +16,6 @@ use lib.ListN.{length}
 use Rattle.lists.specs.Places.{sum}
 use Rattle.field.specs.Residues.{Residues}
 use Rattle.field.specs.Rows.{allBelow}
-use Rattle.plan.specs.Causes.{first}
 use Rattle.plan.specs.Numbers.{variables, numberCauses, plan}
 use Rattle.plan.specs.declared.numbers.Plan.{Plan}
 

@@ -1,8 +1,7 @@
 -- The meaning of texts, tested before any code: 01's XOR example, byte for byte, and a refusal of each kind. Each fact computes.
 -- Assumes nothing.
 use mathlib.Core.Path.{_≡_, refl}
-use mathlib.Core.List.{List, [], _∷_}
-use Prim.Native.Nat.{ℕ}
+use mathlib.Core.List.{[], _∷_}
 use Rattle.lists.specs.Places.{sum, tab, every, joined}
 use Rattle.field.specs.Primes.{isPrime, oddPrime}
 use Rattle.field.specs.Residues.{inverse}

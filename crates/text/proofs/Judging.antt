@@ -5,24 +5,22 @@
 --     part-placed                       a line of a part written into a buffer, from a place on
 --     weights-, table-, product-refuses and -reaches       the lines of parts
 -- Assumes nothing.
-use mathlib.Core.Path.{_≡_, refl, sym, ap, ap₂, subst, _∙_}
-use mathlib.Core.Bool.{Bool, true, false, cond, not, _&&_}
+use mathlib.Core.Path.{_≡_, refl, sym, ap, ap₂, _∙_}
+use mathlib.Core.Bool.{Bool, true, false}
 use mathlib.Core.List.{List, [], _∷_, _++_, map, append-assoc}
-use Prim.Native.Nat.{ℕ, zero, suc, _+_, _-_, _*_, _≤_, _<_}
+use Prim.Native.Nat.{ℕ, zero, suc, _+_, _-_, _≤_, _<_}
 use native.Mathlib.Nat.{add-sub-cancel-left}
 use native.Mathlib.Numerals.{add-one}
 use native.Mathlib.Omega.{arith}
-use lib.Dec.{eqb, ltb}
+use lib.Dec.{ltb}
 use lib.ListN.{length, take, drop, length-append, length-map, take-append-drop}
 use lib.Seq.{take-at, length-take-le, drop-drop}
 use borrow.Author.Tests.{lt-ltb, le-ltb}
 use Rattle.lists.specs.Places.{at, placed}
-use Rattle.field.specs.Rows.{allBelow}
 use Rattle.plan.specs.declared.numbers.Plan.{Plan}
-use Rattle.plan.specs.declared.numbers.Checked.{Checked}
 use Rattle.plan.specs.declared.numbers.Checked.the-variants.{Accepted, Refused}
 use Rattle.plan.specs.Causes.{first, result}
-use Rattle.plan.specs.Numbers.{variables, columns, numberCauses, plan, answer, checked}
+use Rattle.plan.specs.Numbers.{columns, numberCauses, plan, answer, checked}
 use Rattle.plan.proofs.Refusals.{first-refused, first-passed, call-plan}
 use Rattle.text.specs.Lines.{cutAt, number, asks, numbers}
 use Rattle.text.specs.Words.{partCauses}

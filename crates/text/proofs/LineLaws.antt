@@ -4,15 +4,15 @@
 --     belowFrom, below-start, ..            whether the numbers from a place on are below p
 --     same-start, same-step, ..             two byte strings from a place on
 -- Assumes nothing.
-use mathlib.Core.Path.{_≡_, refl, sym, ap, ap₂, _∙_}
-use mathlib.Core.Bool.{Bool, true, false, cond, not, _&&_, true≢false}
-use mathlib.Core.List.{List, [], _∷_, _++_, map}
-use Prim.Native.Nat.{ℕ, zero, suc, _+_, _-_, _≤_, _<_}
+use mathlib.Core.Path.{_≡_, refl, sym, ap, _∙_}
+use mathlib.Core.Bool.{Bool, true, false, _&&_, true≢false}
+use mathlib.Core.List.{List, _∷_, map}
+use Prim.Native.Nat.{ℕ, zero, suc, _+_, _≤_, _<_}
 use native.Mathlib.Nat.{add-zero, zero-add}
 use native.Mathlib.Numerals.{add-one}
 use native.Mathlib.Omega.{arith}
 use lib.Dec.{eqb, ltb}
-use lib.ListN.{length, drop, length-drop, drop-of-length-le}
+use lib.ListN.{length, drop, drop-of-length-le}
 use lib.Seq.{drop-cons}
 use borrow.Author.Tests.{lt-ltb, le-ltb, ltb-true, eq-eqb, ne-eqb}
 use Rattle.lists.specs.Places.{every, at}
@@ -20,7 +20,6 @@ use Rattle.lists.proofs.Tests.{both-true}
 use Rattle.field.specs.Rows.{allBelow}
 use Rattle.text.specs.Lines.{cutAt, isNumeral, number, allNumerals, asks, numbers, same}
 use Rattle.text.specs.Words.{word, wordsFrom, numeralAt}
-use Rattle.text.specs.declared.numerals.Numeral.{Numeral}
 use Rattle.text.specs.declared.numerals.Numeral.the-variants.{Number, Malformed}
 use Rattle.text.proofs.WordLaws.{word-fits, words-past, words-all, words-step}
 use Rattle.text.proofs.NumeralLaws.{none, found}

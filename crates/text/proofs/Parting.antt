@@ -1,7 +1,7 @@
 -- The refusal of a line of a part, from the two tests.
 --     part-thirteen, part-five, part-passed
 -- Assumes nothing.
-use mathlib.Core.Path.{_≡_, refl}
+use mathlib.Core.Path.{_≡_}
 use mathlib.Core.Bool.{true, false}
 use mathlib.Core.List.{List}
 use Prim.Native.Nat.{ℕ}

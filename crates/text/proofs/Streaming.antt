@@ -3,19 +3,19 @@
 --     long-line          a line of 1,024 bytes or more without its LF is 13 at every place
 --     streamed           finishing after all bytes of a text prints its meaning
 -- Assumes nothing.
-use mathlib.Core.Path.{_≡_, refl, sym, ap, ap₂, _∙_}
-use mathlib.Core.Bool.{Bool, true, false, cond, not, _&&_, false≢true}
+use mathlib.Core.Path.{_≡_, refl, sym, ap, _∙_}
+use mathlib.Core.Bool.{Bool, true, false, cond, false≢true}
 use mathlib.Core.List.{List, [], _∷_, _++_, append-nil, append-assoc}
-use Prim.Native.Nat.{ℕ, zero, suc, _+_, _≤_, _<_}
+use Prim.Native.Nat.{ℕ, suc, _+_, _≤_, _<_}
 use native.Mathlib.Omega.{arith}
 use lib.Dec.{eqb, ltb}
-use lib.ListN.{length, take, length-append, length-take}
+use lib.ListN.{length, take, length-append}
 use lib.Seq.{take-all, take-append-le, length-take-le}
 use borrow.Author.Tests.{le-ltb, ltb-true, ltb-false}
 use Rattle.lists.proofs.Tests.{both-true}
 use Rattle.listing.specs.Printed.{refused}
 use Rattle.text.specs.Lines.{onto, cutAt, asks, same}
-use Rattle.text.specs.Meaning.{Place, names, header, weights, table, product, entryNames, entries, Judged, next, cause, planNames, pairNames, judged, ended, from, meaning}
+use Rattle.text.specs.Meaning.{Place, names, header, weights, table, product, entryNames, entries, Judged, next, cause, planNames, pairNames, judged, from, meaning}
 use Rattle.text.specs.Streaming.{State, reading, stopped, hold, turned, push, pushes, finish, start}
 
 pub pushes-append : (s : State) (xs ys : List ℕ) → pushes s (xs ++ ys) ≡ pushes (pushes s xs) ys

@@ -6,10 +6,10 @@
 --     ended place j       what is printed when the text ends before line j: the listing after entries, else 13 for the missing line j
 --     meaning text        the bytes printed
 --     printed text out, printedLength text out     a lent slice with the output at its front, and the output's length
-use mathlib.Core.Bool.{Bool, true, false, cond, not, _&&_}
+use mathlib.Core.Bool.{Bool, cond, not}
 use mathlib.Core.List.{List, [], _∷_, _++_}
 use Prim.Native.Nat.{ℕ, zero, suc, _+_, _*_}
-use lib.Dec.{eqb, ltb}
+use lib.Dec.{ltb}
 use lib.ListN.{length, replicate}
 use Rattle.lists.specs.Places.{at, placed}
 use Rattle.field.specs.Rows.{allBelow}

@@ -1,14 +1,9 @@
 -- `celerycrag::celery_file` meets its contract: each arm of the match is one case of the answer, and an implied entry's plan is accepted, so
 -- that its number of columns fits. Assumes nothing.
-use mathlib.Core.Path.{_≡_, refl, sym, ap, _∙_}
-use Prim.Native.Nat.{ℕ, _+_, _*_, _≤_}
-use native.Mathlib.Nat.{mul-le-mul}
+use mathlib.Core.Path.{sym, _∙_}
 use native.Mathlib.Omega.{arith}
 use borrow.Author.Needs.{needs}
-use Rattle.plan.specs.Numbers.{plan, Within}
-use Rattle.store.specs.declared.elimination.Filed.the-variants.{New, Implied, Refused}
 use Rattle.celerycrag.proofs.Accepted.{implied-within}
-use borrow.Author.Needs.{needs}
 use Rattle.celerycrag.proofs.celery_file.Statement.{statement}
 use Rattle.celerycrag.proofs.celery_file.Tie as tie
 

@@ -1,5 +1,5 @@
 -- `celerycrag::celery_run` meets its contract: each arm of the match is one case of the answer. Assumes nothing.
-use mathlib.Core.Path.{_≡_, sym, _∙_}
+use mathlib.Core.Path.{sym, _∙_}
 use borrow.Author.Needs.{needs}
 use Rattle.celerycrag.proofs.celery_run.Statement.{statement}
 use Rattle.celerycrag.proofs.celery_run.Tie as tie

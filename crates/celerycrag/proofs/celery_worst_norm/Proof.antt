@@ -1,5 +1,5 @@
 -- `celerycrag::celery_worst_norm` meets its contract: each arm of the match is one case of the answer. Assumes nothing.
-use mathlib.Core.Path.{_≡_, sym, _∙_}
+use mathlib.Core.Path.{sym, _∙_}
 use borrow.Author.Needs.{needs}
 use Rattle.celerycrag.proofs.celery_worst_norm.Statement.{statement}
 use Rattle.celerycrag.proofs.celery_worst_norm.Tie as tie

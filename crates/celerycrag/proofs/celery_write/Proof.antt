@@ -1,12 +1,11 @@
 -- `celerycrag::celery_write` meets its contract: where the writer accepts, the plan is within its limits and the step count fits.
 -- Assumes nothing.
-use mathlib.Core.Path.{_≡_, refl, sym, ap, _∙_}
+use mathlib.Core.Path.{sym, ap, _∙_}
 use Prim.Native.Nat.{ℕ, _*_}
 use native.Mathlib.Omega.{arith}
 use borrow.Author.Needs.{needs}
 use Rattle.program.specs.Layout.{stepCount}
 use Rattle.celerycrag.proofs.Accepted.{writes-within, step-count-small, lengthOf-refused}
-use borrow.Author.Needs.{needs}
 use Rattle.celerycrag.proofs.celery_write.Statement.{statement}
 use Rattle.celerycrag.proofs.celery_write.Tie as tie
 

@@ -1,14 +1,10 @@
 -- `plan::parts::lengths_fit` meets its contract: the products fit their type, and the number of weights is the sum in closed form.
 -- Assumes nothing.
-use mathlib.Core.Path.{_≡_, refl, sym, ap, _∙_}
-use mathlib.Core.Bool.{Bool, true, false, _&&_}
-use Prim.Native.Nat.{ℕ, _+_, _-_, _*_, _/_, _≤_}
+use mathlib.Core.Path.{sym, _∙_}
+use Prim.Native.Nat.{_+_, _-_, _*_, _≤_}
 use native.Mathlib.Nat.{mul-le-mul}
 use native.Mathlib.Omega.{arith}
-use lib.Dec.{eqb}
-use lib.ListN.{length}
 use borrow.Author.Tests.{eq-eqb, ne-eqb}
-use Rattle.plan.specs.Numbers.{variables}
 use Rattle.plan.specs.Parts.{lengthsFit}
 use Rattle.plan.proofs.Bounds.{prime-high, link-weights}
 use borrow.Author.Needs.{needs}

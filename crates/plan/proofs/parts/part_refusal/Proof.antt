@@ -1,6 +1,5 @@
 -- `plan::parts::part_refusal` meets its contract: 4 before 5, each from its test. Assumes nothing.
-use mathlib.Core.Path.{_≡_, refl, sym, ap, _∙_}
-use mathlib.Core.Bool.{Bool, true, false, _&&_}
+use mathlib.Core.Path.{sym, _∙_}
 use borrow.Author.Tests.{not-true, not-false}
 use borrow.Author.Needs.{needs}
 use Rattle.plan.proofs.parts.part_refusal.Statement.{statement}

@@ -1,6 +1,5 @@
 -- `plan::parts::values_fit` meets its contract: one test after the other. Assumes nothing.
-use mathlib.Core.Path.{_≡_, refl, sym, ap, _∙_}
-use mathlib.Core.Bool.{Bool, true, false, _&&_}
+use mathlib.Core.Path.{sym, _∙_}
 use borrow.Author.Tests.{not-true, not-false}
 use Rattle.plan.specs.Parts.{valuesFit}
 use borrow.Author.Needs.{needs}

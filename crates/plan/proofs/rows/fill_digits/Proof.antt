@@ -1,12 +1,11 @@
 -- `plan::rows::fill_digits` meets its contract: q is the weight of the digit before, s to the n - j, and a turn writes digit j.
 -- Assumes nothing.
-use mathlib.Core.Path.{_≡_, refl, sym, ap, _∙_}
-use Prim.Native.Nat.{ℕ, suc, _+_, _-_, _/_, _%_, _^_, _≤_, _<_}
-use native.Mathlib.Nat.{mod-lt, sub-zero, ne-of-gt}
+use mathlib.Core.Path.{_≡_, sym, ap, _∙_}
+use Prim.Native.Nat.{ℕ, suc, _-_, _/_, _%_, _^_, _<_}
+use native.Mathlib.Nat.{mod-lt, sub-zero}
 use native.Mathlib.Numerals.{add-one}
 use native.Mathlib.Omega.{arith}
 use borrow.Author.Needs.{needs}
-use lib.ListN.{length}
 use Rattle.lists.proofs.Overwrite.{Written, written-none, written-next, written-all}
 use Rattle.plan.specs.Rows.{digit}
 use Rattle.plan.proofs.Bounds.{prime-high}

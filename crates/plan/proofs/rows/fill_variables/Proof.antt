@@ -1,6 +1,6 @@
 -- `plan::rows::fill_variables` meets its contract: after k links the first n + k places are the chain, and a turn writes the next
 -- link's value behind it (`Linked` of `Chains`). Assumes nothing.
-use mathlib.Core.Path.{_≡_, sym, _∙_}
+use mathlib.Core.Path.{sym, _∙_}
 use Prim.Native.Nat.{_+_, _-_, _*_}
 use native.Mathlib.Omega.{arith}
 use borrow.Author.Needs.{needs}

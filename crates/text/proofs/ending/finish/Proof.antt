@@ -1,9 +1,8 @@
 -- `text::ending::finish` meets its contract, by the stage and whether bytes are held. Assumes nothing.
-use mathlib.Core.Path.{_≡_, sym}
-use mathlib.Core.List.{List}
+use mathlib.Core.Path.{sym}
 use Prim.Native.Nat.{ℕ, _≤_}
 use native.Mathlib.Omega.{arith}
-use lib.ListN.{length, take}
+use lib.ListN.{length}
 use lib.Seq.{length-take-le}
 use Rattle.plan.specs.declared.numbers.Plan.{Plan}
 use Rattle.text.specs.Progress.{Planned}

@@ -1,7 +1,7 @@
 -- `text::ending::print_filed` meets its contract: the coefficients are read off into a local array. Assumes nothing.
-use mathlib.Core.Path.{_≡_, sym, ap, _∙_}
+use mathlib.Core.Path.{sym, ap, _∙_}
 use mathlib.Core.List.{List}
-use Prim.Native.Nat.{ℕ, _+_, _*_, _≤_}
+use Prim.Native.Nat.{ℕ, _+_, _*_}
 use lib.Seq.{length-take-le}
 use Rattle.listing.specs.Printed.{listing}
 use Rattle.store.proofs.StoreCalls.{columns-small}

@@ -1,5 +1,4 @@
 -- `text::ending::print_read` meets its contract: the bytes of the text pushed from the start, and its end. Assumes nothing.
-use mathlib.Core.Path.{_≡_}
 use native.Mathlib.Omega.{arith}
 use Rattle.text.proofs.Finishing.{room-kept, prints, sound-state, prints-meaning}
 use borrow.Author.Needs.{needs}

@@ -1,5 +1,4 @@
 -- `text::ending::print_text` meets its contract: buffers of its own, where there is room for the output. Assumes nothing.
-use mathlib.Core.Path.{_≡_, refl, sym}
 use borrow.Author.Tests.{lt-ltb, le-ltb}
 use Rattle.text.specs.Meaning.{printed, printedLength}
 use borrow.Author.Needs.{needs}

@@ -1,12 +1,8 @@
 -- `text::numerals::number_at` meets its contract: each return is what the tests on the way say of the word. Assumes nothing.
-use mathlib.Core.Path.{_≡_, refl, sym, ap, _∙_}
-use mathlib.Core.Bool.{true}
+use mathlib.Core.Path.{sym, _∙_}
 use mathlib.Core.Logic.{⊎-elim}
-use Prim.Native.Nat.{_-_, _≤_}
 use native.Mathlib.Omega.{arith}
-use lib.ListN.{length}
 use borrow.Author.Tests.{not-true, not-false}
-use Rattle.text.specs.Words.{word}
 use Rattle.text.proofs.WordLaws.{word-fits, word-part}
 use Rattle.text.proofs.NumeralLaws.{answers-short, answers-long, answers-other, answers-zero, answers-one, answers-first}
 use borrow.Author.Needs.{needs}

@@ -1,5 +1,5 @@
 -- `text::numerals::word_end` meets its contract: the word at `at` ends where the word at `end` does. Assumes nothing.
-use mathlib.Core.Path.{_≡_, refl, sym}
+use mathlib.Core.Path.{_≡_, refl}
 use Prim.Native.Nat.{_+_, _-_, _≤_}
 use native.Mathlib.Omega.{arith}
 use lib.ListN.{length}

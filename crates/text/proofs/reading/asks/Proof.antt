@@ -1,12 +1,10 @@
 -- `text::reading::asks` meets its contract: the words so far are i numerals, and the words from place `at` on decide. Assumes nothing.
-use mathlib.Core.Path.{_≡_, refl, sym, _∙_}
+use mathlib.Core.Path.{_≡_, sym, _∙_}
 use Prim.Native.Nat.{_+_, _-_, _≤_}
 use native.Mathlib.Omega.{arith}
 use borrow.Author.Needs.{needs}
 use lib.ListN.{length}
 use Rattle.text.specs.Lines as lines
-use Rattle.text.specs.Words.{numeralAt}
-use Rattle.text.specs.declared.numerals.Numeral.the-variants.{Number, Malformed}
 use Rattle.text.proofs.LineLaws.{next-place, counted, counted-start, long-refused, counted-none, counted-next, counted-end}
 use Rattle.text.proofs.reading.asks.Statement.{statement}
 use Rattle.text.proofs.reading.asks.Tie as tie

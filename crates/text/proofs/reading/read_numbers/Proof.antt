@@ -1,5 +1,5 @@
 -- `text::reading::read_numbers` meets its contract: a turn writes the number at place `at` behind those before it (`Filling`). Assumes nothing.
-use mathlib.Core.Path.{_≡_, sym, _∙_}
+use mathlib.Core.Path.{sym, _∙_}
 use Prim.Native.Nat.{_+_, _-_}
 use native.Mathlib.Omega.{arith}
 use borrow.Author.Needs.{needs}

@@ -1,5 +1,5 @@
 -- `text::reading::read_part` meets its contract: 13 before 5, and the part is written only where the line meets neither. Assumes nothing.
-use mathlib.Core.Path.{_≡_, refl, sym, _∙_}
+use mathlib.Core.Path.{refl, sym, _∙_}
 use borrow.Author.Tests.{not-true, not-false}
 use Rattle.text.specs.Lines.{numbers}
 use Rattle.text.proofs.Filling.{asked, below-more}

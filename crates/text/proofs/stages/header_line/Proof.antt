@@ -1,5 +1,5 @@
 -- `text::stages::header_line` meets its contract: 13 first, then the constructor's refusal, then 14. Assumes nothing.
-use mathlib.Core.Path.{_≡_, sym, _∙_}
+use mathlib.Core.Path.{sym, _∙_}
 use native.Mathlib.Omega.{arith}
 use borrow.Author.Tests.{not-true, not-false}
 use Rattle.plan.proofs.Refusals.{call-within}

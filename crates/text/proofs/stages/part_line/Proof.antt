@@ -1,5 +1,5 @@
 -- `text::stages::part_line` meets its contract: the part that is lent is as long as the line asks, and is put back in its place. Assumes nothing.
-use mathlib.Core.Path.{_≡_, ap, _∙_}
+use mathlib.Core.Path.{ap, _∙_}
 use Prim.Native.Nat.{ℕ}
 use Rattle.lists.proofs.Parts.{cut-length}
 use Rattle.plan.specs.Causes.{first}

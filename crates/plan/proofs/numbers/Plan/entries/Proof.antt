@@ -1,5 +1,4 @@
 -- `plan::numbers::Plan::entries` meets its contract: s^n is at most 4,096, so the power is not cut off. Assumes nothing.
-use Prim.Native.Nat.{_^_, min}
 use native.Mathlib.Omega.{arith}
 use borrow.Author.Needs.{needs}
 use Rattle.plan.proofs.Bounds.{prime-high}

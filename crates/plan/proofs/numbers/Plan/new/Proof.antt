@@ -1,12 +1,10 @@
 -- `plan::numbers::Plan::new` meets its contract: each return is the first cause whose condition the tests on the way have shown.
 -- Assumes nothing.
-use mathlib.Core.Path.{_≡_, sym, _∙_}
-use mathlib.Core.Bool.{true, false}
+use mathlib.Core.Path.{sym, _∙_}
 use Prim.Native.Nat.{_+_, _≤_}
 use native.Mathlib.Nat.{mul-le-mul}
 use native.Mathlib.Omega.{arith}
 use borrow.Author.Tests.{not-true, not-false}
-use Rattle.field.specs.Primes.{oddPrime}
 use Rattle.field.proofs.PrimeTable.{oddPrime-means}
 use Rattle.plan.proofs.Refusals.{refused-prime, refused-radix, refused-range, accepts}
 use borrow.Author.Needs.{needs}
