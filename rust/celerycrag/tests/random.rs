@@ -5,41 +5,16 @@
 
 mod common;
 use common::faults::fault;
-use common::lots::{lot, noise};
-use common::plans::{residues, shape, Owned};
+use common::lots::{lot, noise, pairs};
+use common::plans::{shape, Owned};
 use common::random::{cases, Random};
-use common::tally::Tally;
+use common::tally::{Tally, CAUSES};
 use common::twins::{self, Lot};
-
-/// A value for each entry: any; those of one β where it gives values; or those
-/// of one variable where they are values.
-fn table(random: &mut Random, plan: &Owned) -> Vec<usize> {
-    let beta = residues(random, plan.columns(), plan.p);
-    let variable = plan.columns() - 1 - random.below(plan.variables());
-    let kind = random.below(3);
-    let mut row = vec![0; plan.columns()];
-    let mut tally = Tally::default();
-    let mut value = |entry| {
-        twins::row(plan, entry, &mut row, &mut tally);
-        let wanted = match kind {
-            0 => plan.p,
-            1 => plan.product(&row, &beta) as usize,
-            _ => row[variable] as usize,
-        };
-        if wanted < plan.s {
-            wanted
-        } else {
-            random.below(plan.s)
-        }
-    };
-    (0..plan.entries()).map(&mut value).collect()
-}
 
 /// Files a whole table, with repeated and contradicting entries and faulty
 /// calls between, then writes its program and runs it on all inputs.
 fn whole_table(random: &mut Random, plan: &Owned, tally: &mut Tally) {
-    let values = table(random, plan);
-    let mut list: Vec<(usize, usize)> = values.into_iter().enumerate().collect();
+    let mut list = pairs(random, plan, 0..plan.entries());
     if random.one_in(2) {
         random.shuffle(&mut list);
     }
@@ -133,7 +108,7 @@ fn calls_with_faults() {
         }
         twins::all(&lot, &mut tally);
     });
-    tally.complete();
+    tally.complete(&CAUSES, 50_000);
 }
 
 #[test]

@@ -1,4 +1,5 @@
-//! Random lots for the nine calls: with nothing wrong, and of noise.
+//! Random lots for the nine calls, with nothing wrong and of noise, and random
+//! entries with values.
 
 use super::faults::EDGES;
 use super::plans::{reduced, residues, shape, Owned};
@@ -79,6 +80,34 @@ pub fn well_formed(random: &mut Random, plan: &Owned, count: usize) -> Vec<u16> 
         steps.extend(step.map(|number| number as u16));
     }
     steps
+}
+
+/// These entries with values: any; those of one β where it gives values; or
+/// those of one variable where they are values.
+pub fn pairs(
+    random: &mut Random,
+    plan: &Owned,
+    entries: impl IntoIterator<Item = usize>,
+) -> Vec<(usize, usize)> {
+    let beta = residues(random, plan.columns(), plan.p);
+    let variable = plan.columns() - 1 - random.below(plan.variables());
+    let kind = random.below(3);
+    let mut row = vec![0; plan.columns()];
+    let pair = |entry| {
+        raw::row(plan.lent(), entry, &mut row);
+        let wanted = match kind {
+            0 => plan.p,
+            1 => plan.product(&row, &beta) as usize,
+            _ => row[variable] as usize,
+        };
+        let value = if wanted < plan.s {
+            wanted
+        } else {
+            random.below(plan.s)
+        };
+        (entry, value)
+    };
+    entries.into_iter().map(pair).collect()
 }
 
 /// Numbers and bytes without any plan behind them.

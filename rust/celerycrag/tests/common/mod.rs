@@ -7,4 +7,5 @@ pub mod lots;
 pub mod plans;
 pub mod random;
 pub mod tally;
+pub mod texts;
 pub mod twins;

@@ -16,9 +16,6 @@ pub const CAUSES: [(&str, &[u8]); 9] = [
     ("worst_norm", &[1, 2, 3, 4, 5]),
 ];
 
-/// So many calls meet every cause.
-const ENOUGH: u64 = 50_000;
-
 #[derive(Default)]
 pub struct Tally {
     counts: BTreeMap<(&'static str, u8), u64>,
@@ -33,23 +30,24 @@ impl Tally {
         self.counts.get(&(call, answer)).copied().unwrap_or(0)
     }
 
-    /// Prints the counts. Over enough calls, fails where a call never gave an
-    /// answer that it can give.
-    pub fn complete(&self) {
-        println!(
-            "| call | accepted | {} |",
-            Vec::from_iter((1..=12).map(|k| k.to_string())).join(" | ")
-        );
-        println!("|---{}|", "|---".repeat(13));
-        for (call, _) in CAUSES {
-            let counts: Vec<String> = (0..=12).map(|k| self.count(call, k).to_string()).collect();
+    /// Prints the counts of calls, each given with the causes it can meet. Over
+    /// enough calls, fails where one never gave an answer that it can give.
+    pub fn complete(&self, calls: &[(&'static str, &[u8])], enough: u64) {
+        let last = calls.iter().flat_map(|(_, causes)| causes.iter()).max();
+        let answers = 1..=last.copied().unwrap_or(0);
+        let heads: Vec<String> = answers.clone().map(|k| k.to_string()).collect();
+        println!("| call | accepted | {} |", heads.join(" | "));
+        println!("|---{}|", "|---".repeat(heads.len() + 1));
+        for (call, _) in calls {
+            let counts = [0].into_iter().chain(answers.clone());
+            let counts: Vec<String> = counts.map(|k| self.count(call, k).to_string()).collect();
             println!("| {call} | {} |", counts.join(" | "));
         }
-        if self.counts.values().sum::<u64>() < ENOUGH {
+        if self.counts.values().sum::<u64>() < enough {
             return;
         }
-        for (call, causes) in CAUSES {
-            for &answer in [&[0], causes].concat().iter() {
+        for (call, causes) in calls {
+            for &answer in [&[0], *causes].concat().iter() {
                 assert!(
                     self.count(call, answer) > 0,
                     "{call} never answered {answer}"

@@ -1,0 +1,220 @@
+//! The filing program against the reference: the same bytes printed for texts
+//! in order and not, however the text comes in.
+//!
+//! The program is that of CELERYCRAG_FILING, else of target/bin at the root of
+//! the repository, where `rt check filing` puts it.
+
+mod common;
+use common::lots::pairs;
+use common::plans::{shape, Owned};
+use common::random::{cases, Random};
+use common::tally::Tally;
+use common::texts::{spoil, text};
+use std::ffi::OsString;
+use std::fs;
+use std::io::{ErrorKind, Write};
+use std::path::{Path, PathBuf};
+use std::process::{Child, Command, Stdio};
+use std::thread;
+use std::time::Duration;
+
+const ROOT: &str = concat!(env!("CARGO_MANIFEST_DIR"), "/../..");
+/// The refusals that a text can meet.
+const CAUSES: [(&str, &[u8]); 1] = [("filing", &[1, 2, 3, 5, 7, 8, 9, 13, 14])];
+/// Shapes p s n m t of about as many columns as a text may have; two have more.
+const LARGEST: [[usize; 5]; 9] = [
+    [3, 2, 2, 49, 4],
+    [251, 251, 1, 50, 4],
+    [17, 16, 3, 14, 14],
+    [251, 2, 12, 3, 16],
+    [127, 64, 2, 62, 2],
+    [5, 2, 7, 0, 32],
+    [251, 2, 1, 63, 2],
+    [3, 2, 2, 62, 3],
+    [251, 2, 12, 52, 15],
+];
+
+/// The program, started, with pipes to and from it.
+fn start() -> Child {
+    let path = std::env::var_os("CELERYCRAG_FILING")
+        .unwrap_or_else(|| OsString::from(format!("{ROOT}/target/bin/filing")));
+    let pipes = Command::new(&path)
+        .stdin(Stdio::piped())
+        .stdout(Stdio::piped())
+        .stderr(Stdio::piped())
+        .spawn();
+    pipes.unwrap_or_else(|error| {
+        panic!(
+            "no filing program at {}: {error}; build it with 'rt check filing', \
+             or set CELERYCRAG_FILING",
+            path.display()
+        )
+    })
+}
+
+/// What the program prints for a text that comes in these pieces. It has to
+/// end normally and to leave standard error alone.
+fn prints(pieces: &[&[u8]]) -> Vec<u8> {
+    let mut program = start();
+    let mut input = program.stdin.take().expect("a pipe");
+    let output = thread::scope(|scope| {
+        scope.spawn(move || {
+            for (k, piece) in pieces.iter().enumerate() {
+                if k > 0 {
+                    // Time for the program to take the piece before alone; it
+                    // is no matter where it does not.
+                    thread::sleep(Duration::from_micros(1));
+                }
+                match input.write_all(piece) {
+                    // A refused text need not be read to its end.
+                    Err(error) if error.kind() == ErrorKind::BrokenPipe => break,
+                    written => written.expect("a piece written"),
+                }
+            }
+        });
+        program.wait_with_output().expect("the program's output")
+    });
+    assert!(output.status.success(), "{}", output.status);
+    assert_eq!(output.stderr.escape_ascii().to_string(), "");
+    output.stdout
+}
+
+/// That the program prints what the reference does for a text that comes in
+/// these pieces; what that is.
+fn agree(pieces: &[&[u8]], tally: &mut Tally) -> Vec<u8> {
+    let text = pieces.concat();
+    let expected = reference::filing_program(&text);
+    let printed = prints(pieces);
+    assert!(
+        printed == expected,
+        "text: {}\nprogram: {}\nreference: {}",
+        text.escape_ascii(),
+        printed.escape_ascii(),
+        expected.escape_ascii()
+    );
+    tally.add("filing", refusal(&expected));
+    printed
+}
+
+/// The number of the refusal that is printed, or 0.
+fn refusal(printed: &[u8]) -> u8 {
+    let printed = String::from_utf8_lossy(printed);
+    let words = printed.strip_prefix("refusal line\n");
+    words.map_or(0, |words| {
+        let number = words.split(' ').next().expect("a word");
+        number.parse().expect("a number")
+    })
+}
+
+/// The text of a random plan with some of its entries, perhaps repeated.
+fn some_text(random: &mut Random, shape: [usize; 5], most_entries: usize) -> Vec<u8> {
+    let plan = Owned::random(random, shape);
+    let count = random.below(most_entries + 1);
+    let entries: Vec<usize> = (0..count).map(|_| random.below(plan.entries())).collect();
+    text(&plan, &pairs(random, &plan, entries))
+}
+
+/// The text of a small plan.
+fn small_text(random: &mut Random) -> Vec<u8> {
+    let most_columns = random.pick(&[6, 12, 30]);
+    let shape = shape(random, most_columns);
+    some_text(random, shape, 20)
+}
+
+#[test]
+fn texts_in_order() {
+    let mut tally = Tally::default();
+    cases("texts in order", 100, |random| {
+        agree(&[&small_text(random)], &mut tally);
+    });
+}
+
+#[test]
+fn spoiled_texts() {
+    let mut tally = Tally::default();
+    cases("spoiled texts", 250, |random| {
+        let mut text = small_text(random);
+        for _ in 0..random.pick(&[1, 1, 1, 2, 3]) {
+            spoil(random, &mut text);
+        }
+        agree(&[&text], &mut tally);
+    });
+    tally.complete(&CAUSES, 2_000);
+}
+
+#[test]
+fn texts_in_pieces() {
+    let mut tally = Tally::default();
+    cases("texts in pieces", 20, |random| {
+        let mut text = small_text(random);
+        if random.one_in(2) {
+            spoil(random, &mut text);
+        }
+        let most = random.pick(&[1, 4, 30, 200]);
+        let (mut pieces, mut rest) = (Vec::new(), &text[..]);
+        while !rest.is_empty() {
+            let (piece, after) = rest.split_at(random.within(1, most).min(rest.len()));
+            pieces.push(piece);
+            rest = after;
+        }
+        agree(&pieces, &mut tally);
+    });
+}
+
+#[test]
+fn the_largest_shapes() {
+    let mut tally = Tally::default();
+    cases("the largest texts", 4, |random| {
+        let shape = random.pick(&LARGEST);
+        let mut text = some_text(random, shape, 6);
+        if random.one_in(3) {
+            spoil(random, &mut text);
+        }
+        agree(&[&text], &mut tally);
+    });
+}
+
+#[test]
+fn every_beginning_and_every_missing_byte() {
+    let xor = text(&Owned::xor(), &[(0, 0), (1, 1), (2, 1), (3, 0)]);
+    let mut tally = Tally::default();
+    for place in 0..xor.len() {
+        agree(&[&xor[..place]], &mut tally);
+        agree(&[&xor[..place], &xor[place + 1..]], &mut tally);
+    }
+}
+
+#[test]
+fn a_long_text() {
+    let kept = [(0, 0), (1, 1), (2, 1), (3, 0)];
+    let many: Vec<(usize, usize)> = (0..200_000).map(|k| kept[k % 4]).collect();
+    let long = text(&Owned::xor(), &many);
+    let mut tally = Tally::default();
+    let printed = agree(&[&long], &mut tally);
+    assert_eq!(printed, prints(&[&text(&Owned::xor(), &kept)]));
+    let refused = agree(&[&long, b"2 0\n"], &mut tally);
+    assert_eq!(refused, b"refusal line\n9 200005\n");
+}
+
+/// The plan texts in a directory.
+fn texts_in(directory: &Path) -> Vec<PathBuf> {
+    let files = fs::read_dir(directory).expect("a directory");
+    let paths = files.map(|file| file.expect("a file").path());
+    paths
+        .filter(|path| path.extension() == Some("txt".as_ref()))
+        .collect()
+}
+
+#[test]
+fn the_texts_that_are_kept() {
+    let examples = Path::new(ROOT).join("examples");
+    let texts = [texts_in(&examples), texts_in(&examples.join("refusals"))].concat();
+    assert!(texts.len() >= 100, "only {} texts", texts.len());
+    let mut tally = Tally::default();
+    for path in texts {
+        let read = |path: &Path| fs::read(path).expect("a file");
+        let (text, out) = (read(&path), read(&path.with_extension("out")));
+        assert!(agree(&[&text], &mut tally) == out, "{}", path.display());
+    }
+    tally.complete(&CAUSES, 0);
+}
