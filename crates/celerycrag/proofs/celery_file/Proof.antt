@@ -17,13 +17,19 @@ enum-told : tie.Need-enum-told
 enum-told c = search needs
 
 add-column : tie.Need-add-column
-add-column c = omega (arith, implied-within _ _ _ _ _ _ _ _ _ _ _ _ (sym (c .before .before .before .before .file .ensures .0) ∙ c .enum-told .given .1))
+add-column c =
+    let file = c .before .before .before .before .file in
+    omega (arith, implied-within _ _ _ _ _ _ _ _ _ _ _ _ (sym (file .ensures .0) ∙ c .enum-told .given .1))
 
 add-column-2 : tie.Need-add-column-2
-add-column-2 c = omega (arith, implied-within _ _ _ _ _ _ _ _ _ _ _ _ (sym (c .before .before .before .before .file .ensures .0) ∙ c .enum-told .given .1))
+add-column-2 c =
+    let file = c .before .before .before .before .file in
+    omega (arith, implied-within _ _ _ _ _ _ _ _ _ _ _ _ (sym (file .ensures .0) ∙ c .enum-told .given .1))
 
 mul-column : tie.Need-mul-column
-mul-column c = omega (arith, implied-within _ _ _ _ _ _ _ _ _ _ _ _ (sym (c .before .before .before .before .file .ensures .0) ∙ c .enum-told .given .1))
+mul-column c =
+    let file = c .before .before .before .before .file in
+    omega (arith, implied-within _ _ _ _ _ _ _ _ _ _ _ _ (sym (file .ensures .0) ∙ c .enum-told .given .1))
 
 enum-known-a-2 : tie.Need-enum-known-a-2
 enum-known-a-2 c = search needs
@@ -33,24 +39,27 @@ same-length c = search needs
 
 returns : tie.Need-returns
 returns c =
-    let e = sym (c .before .before .before .before .before .file .ensures .0) ∙ c .before .a .given .1 in
-    (rw e, (c .before .before .before .before .before .file .ensures .1, rw e))
+    let file = c .before .before .before .before .before .file in
+    let e = sym (file .ensures .0) ∙ c .before .a .given .1 in
+    (rw e, (file .ensures .1, rw e))
 
 same-length-2 : tie.Need-same-length-2
 same-length-2 c = search needs
 
 returns-2 : tie.Need-returns-2
 returns-2 c =
-    let e = sym (c .before .before .before .before .file .ensures .0) ∙ c .enum-told .given .1 in
-    (rw e, (c .before .before .before .before .file .ensures .1, rw e))
+    let file = c .before .before .before .before .file in
+    let e = sym (file .ensures .0) ∙ c .enum-told .given .1 in
+    (rw e, (file .ensures .1, rw e))
 
 same-length-3 : tie.Need-same-length-3
 same-length-3 c = search needs
 
 returns-3 : tie.Need-returns-3
 returns-3 c =
-    let e = sym (c .before .before .before .before .before .file .ensures .0) ∙ c .before .a2 .given .1 in
-    (rw e, (c .before .before .before .before .before .file .ensures .1, rw e))
+    let file = c .before .before .before .before .before .file in
+    let e = sym (file .ensures .0) ∙ c .before .a2 .given .1 in
+    (rw e, (file .ensures .1, rw e))
 
 pub celery-file-spec : {M : Type 1} → statement M
 celery-file-spec =

@@ -15,12 +15,14 @@ enum-known-a-2 c = search needs
 
 returns : tie.Need-returns
 returns c =
-    let e = sym (c .before .before .before .run .ensures) ∙ c .before .a .given .1 in
+    let run = c .before .before .before .run in
+    let e = sym (run .ensures) ∙ c .before .a .given .1 in
     (rw e, (rw e, rw e))
 
 returns-2 : tie.Need-returns-2
 returns-2 c =
-    let e = sym (c .before .before .before .run .ensures) ∙ c .before .a2 .given .1 in
+    let run = c .before .before .before .run in
+    let e = sym (run .ensures) ∙ c .before .a2 .given .1 in
     (rw e, (rw e, rw e))
 
 pub celery-run-spec : {M : Type 1} → statement M

@@ -15,12 +15,14 @@ enum-known-a-2 c = search needs
 
 returns : tie.Need-returns
 returns c =
-    let e = sym (c .before .before .before .worst-norm .ensures) ∙ c .before .a .given .1 in
+    let worst-norm = c .before .before .before .worst-norm in
+    let e = sym (worst-norm .ensures) ∙ c .before .a .given .1 in
     (rw e, rw e)
 
 returns-2 : tie.Need-returns-2
 returns-2 c =
-    let e = sym (c .before .before .before .worst-norm .ensures) ∙ c .before .a2 .given .1 in
+    let worst-norm = c .before .before .before .worst-norm in
+    let e = sym (worst-norm .ensures) ∙ c .before .a2 .given .1 in
     (rw e, rw e)
 
 pub celery-worst-norm-spec : {M : Type 1} → statement M

@@ -14,12 +14,14 @@ write-into-requires c κs = search needs
 
 step-count-requires : tie.Need-step-count-requires
 step-count-requires c κs =
-    let w = writes-within _ _ _ _ _ _ _ _ _ _ (sym (c .before .before .before .write-into .ensures .0) ∙ c .if1 .taken) in
+    let write-into = c .before .before .before .write-into in
+    let w = writes-within _ _ _ _ _ _ _ _ _ _ (sym (write-into .ensures .0) ∙ c .if1 .taken) in
     (w .variable-limit, w .product-limit)
 
 mul-written : tie.Need-mul-written
 mul-written c =
-    let w = writes-within _ _ _ _ _ _ _ _ _ _ (sym (c .before .before .before .before .write-into .ensures .0) ∙ c .before .if1 .taken) in
+    let write-into = c .before .before .before .before .write-into in
+    let w = writes-within _ _ _ _ _ _ _ _ _ _ (sym (write-into .ensures .0) ∙ c .before .if1 .taken) in
     omega (arith, step-count-small w (c .step-count .result) (c .step-count .ensures))
 
 same-length : tie.Need-same-length
@@ -27,13 +29,17 @@ same-length c = search needs
 
 returns : tie.Need-returns
 unfolding stepCount
-returns c = (c .before .before .before .before .write-into .ensures .0, (c .before .before .before .before .write-into .ensures .1, rw (c .before .if1 .taken) (ap (λ (x : ℕ). 4 * x) (c .step-count .ensures))))
+returns c =
+    let write-into = c .before .before .before .before .write-into in
+    (write-into .ensures .0, (write-into .ensures .1, rw (c .before .if1 .taken) (ap (λ (x : ℕ). 4 * x) (c .step-count .ensures))))
 
 same-length-2 : tie.Need-same-length-2
 same-length-2 c = search needs
 
 returns-2 : tie.Need-returns-2
-returns-2 c = (c .before .before .before .write-into .ensures .0, (c .before .before .before .write-into .ensures .1, sym (lengthOf-refused _ _ _ (c .if1 .left))))
+returns-2 c =
+    let write-into = c .before .before .before .write-into in
+    (write-into .ensures .0, (write-into .ensures .1, sym (lengthOf-refused _ _ _ (c .if1 .left))))
 
 pub celery-write-spec : {M : Type 1} → statement M
 celery-write-spec =

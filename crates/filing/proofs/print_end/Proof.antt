@@ -20,13 +20,19 @@ fits c =
     omega (arith, printed-fits (a .out .now) _ (finish (stateOf (a .state) (a .line .now) (a .weights .now) (a .tables .now) (a .d .now) (a .store .now))) (c .finish .ensures .0) (c .finish .kept .1 .1 .1 .1 .1 .1 .1 .0), c .finish .ensures .1)
 
 finish-requires : tie.Need-finish-requires
-finish-requires c κs = (c .before .before .before .before .before .before .before .before .before .pre .0 .0, ((c .before .before .before .before .before .before .before .before .before .pre .0 .1, c .before .before .before .before .before .before .before .before .before .pre .1 .1 .0), (c .before .before .before .before .before .before .before .before .before .pre .1 .1 .1 .0, (c .before .before .before .before .before .before .before .before .before .pre .1 .0, c .before .before .before .before .before .before .before .before .before .pre .1 .1 .1 .1))))
+finish-requires c κs =
+    let pre = c .before .before .before .before .before .before .before .before .before .pre in
+    (pre .0 .0, ((pre .0 .1, pre .1 .1 .0), (pre .1 .1 .1 .0, (pre .1 .0, pre .1 .1 .1 .1))))
 
 slice-reshare-prefix-write-all : tie.Need-slice-reshare-prefix-write-all
-slice-reshare-prefix-write-all c = fits (c .before .before .before .before)
+slice-reshare-prefix-write-all c =
+    let r = c .before .before .before .before in
+    fits r
 
 slice-aggregate-write-all : tie.Need-slice-aggregate-write-all
-slice-aggregate-write-all c = sym (length-take-le _ _ (fits (c .before .before .before .before .before)))
+slice-aggregate-write-all c =
+    let r = c .before .before .before .before .before in
+    sym (length-take-le _ _ (fits r))
 
 write-all-requires : tie.Need-write-all-requires
 write-all-requires c κs = search needs

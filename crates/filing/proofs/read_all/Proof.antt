@@ -22,10 +22,14 @@ abbrev start : tie.After-count Inv-loop μ-loop → tie.Start Inv-loop μ-loop
 start c = c .before .before .before .before .before .before .before .before .before .before .before .before .before .before .before
 
 abbrev part : tie.After-count Inv-loop μ-loop → List ℕ
-part c = take (c .count .result) (c .before .before .before .before .read .last .1 .0)
+part c =
+    let read = c .before .before .before .before .read in
+    take (c .count .result) (read .last .1 .0)
 
 small : (c : tie.After-count Inv-loop μ-loop) → length (part c) ≤ 65536
-small c = reading-part (looped c .loop .inv) _ (c .before .before .before .before .read .last .1 .0) (part c) (start c .pre .0 .0) (c .before .before .before .before .read .kept .1 .0) (c .count .ensures .0)
+small c =
+    let read = c .before .before .before .before .read in
+    reading-part (looped c .loop .inv) _ (read .last .1 .0) (part c) (start c .pre .0 .0) (read .kept .1 .0) (c .count .ensures .0)
 
 start-requires : tie.Need-start-requires Inv-loop μ-loop
 start-requires c κs = tt
@@ -46,13 +50,22 @@ slice-aggregate-feed : tie.Need-slice-aggregate-feed Inv-loop μ-loop
 slice-aggregate-feed c = c .before .count .ensures .0 .1
 
 feed-requires : tie.Need-feed-requires Inv-loop μ-loop
-feed-requires c κs = (c .before .before .before .before .before .before .before .before .before .before .before .before .before .loop .inv .fits, ((c .before .before .before .before .before .before .before .before .before .before .before .before .before .loop .inv .held, omega (arith, c .before .before .before .before .before .before .before .before .before .before .before .before .before .loop .inv .line-same, c .before .before .before .before .before .before .before .before .before .before .before .before .before .before .before .before .before .before .before .before .before .pre .0 .1), omega (arith, c .before .before .before .before .before .before .before .before .before .before .before .before .before .loop .inv .number, small (c .before .before .before .before .before .before))), reading-room (c .before .before .before .before .before .before .before .before .before .before .before .before .before .loop .inv) (c .before .before .before .before .before .before .before .before .before .before .before .before .before .before .before .before .before .before .before .before .before .pre .1)))
+feed-requires c κs =
+    let loop = c .before .before .before .before .before .before .before .before .before .before .before .before .before .loop in
+    let pre = c .before .before .before .before .before .before .before .before .before .before .before .before .before .before .before .before .before .before .before .before .before .pre in
+    let r = c .before .before .before .before .before .before in
+    (loop .inv .fits, ((loop .inv .held, omega (arith, loop .inv .line-same, pre .0 .1), omega (arith, loop .inv .number, small r)), reading-room (loop .inv) (pre .1)))
 
 loop-less : tie.Need-loop-less Inv-loop μ-loop
 loop-less c = omega arith
 
 loop-again : tie.Need-loop-again Inv-loop μ-loop
-loop-again c = reading-next (c .before .before .before .before .before .before .before .before .before .before .before .before .before .before .before .before .before .before .before .before .before .before .before .before .before .loop .inv) _ (part (c .before .before .before .before .before .before .before .before .before .before .before .before .before .before .before .before .before .before)) _ _ _ _ _ _ _ (omega arith) (small (c .before .before .before .before .before .before .before .before .before .before .before .before .before .before .before .before .before .before)) (c .before .before .before .before .before .before .before .before .before .before .before .feed .ensures .0) (c .before .before .before .before .before .before .before .before .before .before .before .feed .ensures .1) (c .before .before .before .before .before .before .before .before .before .before .before .before .before .before .before .before .before .before .before .before .before .before .read .kept .1 .0) (c .before .before .before .before .before .before .before .before .before .before .before .feed .kept .1 .1 .0) (c .before .before .before .before .before .before .before .before .before .before .before .feed .kept .1 .1 .1 .0) (c .before .before .before .before .before .before .before .before .before .before .before .feed .kept .1 .1 .1 .1 .0) (c .before .before .before .before .before .before .before .before .before .before .before .feed .kept .1 .1 .1 .1 .1 .0) (c .before .before .before .before .before .before .before .before .before .before .before .feed .kept .1 .1 .1 .1 .1 .1 .0)
+loop-again c =
+    let loop = c .before .before .before .before .before .before .before .before .before .before .before .before .before .before .before .before .before .before .before .before .before .before .before .before .before .loop in
+    let feed = c .before .before .before .before .before .before .before .before .before .before .before .feed in
+    let read = c .before .before .before .before .before .before .before .before .before .before .before .before .before .before .before .before .before .before .before .before .before .before .read in
+    let r = c .before .before .before .before .before .before .before .before .before .before .before .before .before .before .before .before .before .before in
+    reading-next (loop .inv) _ (part r) _ _ _ _ _ _ _ (omega arith) (small r) (feed .ensures .0) (feed .ensures .1) (read .kept .1 .0) (feed .kept .1 .1 .0) (feed .kept .1 .1 .1 .0) (feed .kept .1 .1 .1 .1 .0) (feed .kept .1 .1 .1 .1 .1 .0) (feed .kept .1 .1 .1 .1 .1 .1 .0)
 
 sub-turns : tie.Need-sub-turns Inv-loop μ-loop
 sub-turns c = omega arith
@@ -61,7 +74,12 @@ loop-less-2 : tie.Need-loop-less-2 Inv-loop μ-loop
 loop-less-2 c = omega arith
 
 loop-again-2 : tie.Need-loop-again-2 Inv-loop μ-loop
-loop-again-2 c = reading-next (c .before .before .before .before .before .before .before .before .before .before .before .before .before .before .before .before .before .before .before .before .before .before .before .before .before .loop .inv) _ (part (c .before .before .before .before .before .before .before .before .before .before .before .before .before .before .before .before .before .before)) _ _ _ _ _ _ _ (omega arith) (small (c .before .before .before .before .before .before .before .before .before .before .before .before .before .before .before .before .before .before)) (c .before .before .before .before .before .before .before .before .before .before .before .feed .ensures .0) (c .before .before .before .before .before .before .before .before .before .before .before .feed .ensures .1) (c .before .before .before .before .before .before .before .before .before .before .before .before .before .before .before .before .before .before .before .before .before .before .read .kept .1 .0) (c .before .before .before .before .before .before .before .before .before .before .before .feed .kept .1 .1 .0) (c .before .before .before .before .before .before .before .before .before .before .before .feed .kept .1 .1 .1 .0) (c .before .before .before .before .before .before .before .before .before .before .before .feed .kept .1 .1 .1 .1 .0) (c .before .before .before .before .before .before .before .before .before .before .before .feed .kept .1 .1 .1 .1 .1 .0) (c .before .before .before .before .before .before .before .before .before .before .before .feed .kept .1 .1 .1 .1 .1 .1 .0)
+loop-again-2 c =
+    let loop = c .before .before .before .before .before .before .before .before .before .before .before .before .before .before .before .before .before .before .before .before .before .before .before .before .before .loop in
+    let feed = c .before .before .before .before .before .before .before .before .before .before .before .feed in
+    let read = c .before .before .before .before .before .before .before .before .before .before .before .before .before .before .before .before .before .before .before .before .before .before .read in
+    let r = c .before .before .before .before .before .before .before .before .before .before .before .before .before .before .before .before .before .before in
+    reading-next (loop .inv) _ (part r) _ _ _ _ _ _ _ (omega arith) (small r) (feed .ensures .0) (feed .ensures .1) (read .kept .1 .0) (feed .kept .1 .1 .0) (feed .kept .1 .1 .1 .0) (feed .kept .1 .1 .1 .1 .0) (feed .kept .1 .1 .1 .1 .1 .0) (feed .kept .1 .1 .1 .1 .1 .1 .0)
 
 same-length : tie.Need-same-length Inv-loop μ-loop
 same-length c = c .before .loop .inv .chunk-same

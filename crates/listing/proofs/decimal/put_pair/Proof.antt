@@ -11,8 +11,9 @@ put-number-requires c κs = search needs
 
 put-number-requires-2 : tie.Need-put-number-requires-2
 put-number-requires-2 c κs =
+    let put-number = c .before .before .before .put-number in
     let s = c .before .before .before .before .before .before in
-    let l1 = left-next 21 21 (ended (s .args .a) 32) (left-none 42 (s .args .out .now) (s .args .at) (s .pre)) (ended-most (s .args .a) 32) (omega arith) (c .before .before .before .put-number .ensures .0) (c .before .before .before .put-number .ensures .1) in
+    let l1 = left-next 21 21 (ended (s .args .a) 32) (left-none 42 (s .args .out .now) (s .args .at) (s .pre)) (ended-most (s .args .a) 32) (omega arith) (put-number .ensures .0) (put-number .ensures .1) in
     omega (arith, l1 .left)
 
 same-length : tie.Need-same-length
@@ -20,8 +21,9 @@ same-length c = search needs
 
 returns : tie.Need-returns
 returns c =
+    let put-number = c .before .before .before .before .before .before .put-number in
     let s = c .before .before .before .before .before .before .before .before .before in
-    let l1 = left-next 21 21 (ended (s .args .a) 32) (left-none 42 (s .args .out .now) (s .args .at) (s .pre)) (ended-most (s .args .a) 32) (omega arith) (c .before .before .before .before .before .before .put-number .ensures .0) (c .before .before .before .before .before .before .put-number .ensures .1) in
+    let l1 = left-next 21 21 (ended (s .args .a) 32) (left-none 42 (s .args .out .now) (s .args .at) (s .pre)) (ended-most (s .args .a) 32) (omega arith) (put-number .ensures .0) (put-number .ensures .1) in
     let l2 = left-next 21 0 (ended (s .args .b) 10) l1 (ended-most (s .args .b) 10) (omega arith) (c .before .before .put-number2 .ensures .0) (c .before .before .put-number2 .ensures .1) in
     let r = put-as (line-two (s .args .a) (s .args .b)) (l2 .put) in
     (r .list, r .ends)

@@ -43,8 +43,9 @@ part-squares-end c =
 
 squares-requires : tie.Need-squares-requires Inv-loop μ-loop
 squares-requires c κs =
+    let loop = c .before .before .before .loop in
     let s = c .before .before .before .before .before in
-    let e = cut-length (s .args .weights .now) (c .before .before .before .loop .begin) (s .args .plan .n + c .before .before .before .loop .k) (link-room (s .args .plan) (s .args .weights .now) (c .before .before .before .loop .begin) (c .before .before .before .loop .k) (s .pre .1) (c .before .before .before .loop .inv .1) (c .before .if1 .taken)) in
+    let e = cut-length (s .args .weights .now) (loop .begin) (s .args .plan .n + loop .k) (link-room (s .args .plan) (s .args .weights .now) (loop .begin) (loop .k) (s .pre .1) (loop .inv .1) (c .before .if1 .taken)) in
     omega (arith, e, s .pre .0 .variable-limit, c .before .if1 .taken)
 
 larger-requires : tie.Need-larger-requires Inv-loop μ-loop
@@ -58,11 +59,13 @@ loop-less c = omega arith
 
 loop-again : tie.Need-loop-again Inv-loop μ-loop
 loop-again c =
+    let loop = c .before .before .before .before .before .loop in
+    let if1 = c .before .before .before .if1 in
     let s = c .before .before .before .before .before .before .before in
-    let room = link-room (s .args .plan) (s .args .weights .now) (c .before .before .before .before .before .loop .begin) (c .before .before .before .before .before .loop .k) (s .pre .1) (c .before .before .before .before .before .loop .inv .1) (c .before .before .before .if1 .taken) in (
+    let room = link-room (s .args .plan) (s .args .weights .now) (loop .begin) (loop .k) (s .pre .1) (loop .inv .1) (if1 .taken) in (
       omega arith,
-      ap (λ (a : ℕ). a + (s .args .plan .n + c .before .before .before .before .before .loop .k)) (c .before .before .before .before .before .loop .inv .1) ∙ sym (sum-next (λ i. s .args .plan .n + i) (c .before .before .before .before .before .loop .k)),
-      largest-turn _ _ _ _ _ (c .before .before .before .before .before .loop .inv .2) (c .before .squares .ensures ∙ part-squares (s .args .weights .now) (c .before .before .before .before .before .loop .begin) (s .args .plan .n + c .before .before .before .before .before .loop .k) room ∙ ap (λ (a : ℕ). specs.squares (s .args .weights .now) a (s .args .plan .n + c .before .before .before .before .before .loop .k)) (c .before .before .before .before .before .loop .inv .1)) (c .larger .ensures),
+      ap (λ (a : ℕ). a + (s .args .plan .n + loop .k)) (loop .inv .1) ∙ sym (sum-next (λ i. s .args .plan .n + i) (loop .k)),
+      largest-turn _ _ _ _ _ (loop .inv .2) (c .before .squares .ensures ∙ part-squares (s .args .weights .now) (loop .begin) (s .args .plan .n + loop .k) room ∙ ap (λ (a : ℕ). specs.squares (s .args .weights .now) a (s .args .plan .n + loop .k)) (loop .inv .1)) (c .larger .ensures),
     )
 
 returns : tie.Need-returns Inv-loop μ-loop

@@ -53,11 +53,12 @@ loop-less c = omega arith
 
 loop-again : tie.Need-loop-again Inv-loop μ-loop
 loop-again c =
+    let loop = c .before .before .before .before .loop in
     let s = c .before .before .before .before .before .before in
-    let room = row-room (c .before .before .before .before .loop .begin) (c .before .before .before .before .loop .b) (s .args .l) (s .args .count) (length (s .args .ws .now)) (c .before .before .before .before .loop .inv .1) (c .before .before .before .loop-test .taken) (s .pre .1) in (
+    let room = row-room (loop .begin) (loop .b) (s .args .l) (s .args .count) (length (s .args .ws .now)) (loop .inv .1) (c .before .before .before .loop-test .taken) (s .pre .1) in (
       omega arith,
-      omega (arith, c .before .before .before .before .loop .inv .1),
-      largest-turn _ _ _ _ _ (c .before .before .before .before .loop .inv .2) (c .before .squares .ensures ∙ part-squares (s .args .ws .now) (c .before .before .before .before .loop .begin) (s .args .l) room ∙ ap (λ (a : ℕ). specs.squares (s .args .ws .now) a (s .args .l)) (c .before .before .before .before .loop .inv .1)) (c .larger .ensures),
+      omega (arith, loop .inv .1),
+      largest-turn _ _ _ _ _ (loop .inv .2) (c .before .squares .ensures ∙ part-squares (s .args .ws .now) (loop .begin) (s .args .l) room ∙ ap (λ (a : ℕ). specs.squares (s .args .ws .now) a (s .args .l)) (loop .inv .1)) (c .larger .ensures),
     )
 
 returns : tie.Need-returns Inv-loop μ-loop

@@ -18,7 +18,8 @@ abbrev μ-loop : tie.MeasureT-loop
 
 term-small : (c : tie.After-shared-slice-known Inv-loop μ-loop) → getD (c .before .before .before .args .ws .now) (c .before .before .loop .j) 0 * getD (c .before .before .before .args .ws .now) (c .before .before .loop .j) 0 ≤ 255 * 255
 term-small c =
-    let a : getD (c .before .before .before .args .ws .now) (c .before .before .loop .j) 0 ≤ 255 = omega (arith, c .shared-slice-known .given (c .before .before .loop .j)) in
+    let args = c .before .before .before .args in
+    let a : getD (args .ws .now) (c .before .before .loop .j) 0 ≤ 255 = omega (arith, c .shared-slice-known .given (c .before .before .loop .j)) in
     mul-le-mul a a
 
 loop-holds : tie.Need-loop-holds Inv-loop μ-loop
@@ -44,7 +45,8 @@ loop-less c = omega arith
 
 loop-again : tie.Need-loop-again Inv-loop μ-loop
 loop-again c =
-    let e = sum-next (λ k. getD (c .before .before .before .args .ws .now) k 0 * getD (c .before .before .before .args .ws .now) k 0) (c .before .before .loop .j) in
+    let args = c .before .before .before .args in
+    let e = sum-next (λ k. getD (args .ws .now) k 0 * getD (args .ws .now) k 0) (c .before .before .loop .j) in
     (omega arith, omega arith, omega (arith, term-small (c)))
 
 returns : tie.Need-returns Inv-loop μ-loop

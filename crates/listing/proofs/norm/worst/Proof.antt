@@ -14,13 +14,18 @@ links-norm-requires : tie.Need-links-norm-requires
 links-norm-requires c κs = search needs
 
 rows-norm-requires : tie.Need-rows-norm-requires
-rows-norm-requires c κs = (omega (arith, c .before .variables .ensures, c .before .before .before .before .before .pre .0 .variable-limit), rw (c .before .variables .ensures) (le-of-eq (sym (c .before .before .before .before .before .pre .1 .1 .0))))
+rows-norm-requires c κs =
+    let pre = c .before .before .before .before .before .pre in
+    (omega (arith, c .before .variables .ensures, pre .0 .variable-limit), rw (c .before .variables .ensures) (le-of-eq (sym (pre .1 .1 .0))))
 
 add-rows-norm : tie.Need-add-rows-norm
 add-rows-norm c = search needs
 
 rows-norm-requires-2 : tie.Need-rows-norm-requires-2
-rows-norm-requires-2 c κs = (omega (arith, c .before .before .before .variables .ensures, c .before .before .before .before .before .before .before .pre .0 .variable-limit), rw (c .before .before .before .variables .ensures) (le-of-eq (sym (c .before .before .before .before .before .before .before .pre .1 .1 .1))))
+rows-norm-requires-2 c κs =
+    let variables = c .before .before .before .variables in
+    let pre = c .before .before .before .before .before .before .before .pre in
+    (omega (arith, variables .ensures, pre .0 .variable-limit), rw (variables .ensures) (le-of-eq (sym (pre .1 .1 .1))))
 
 larger-requires : tie.Need-larger-requires
 larger-requires c κs = search needs
@@ -30,8 +35,11 @@ larger-requires-2 c κs = search needs
 
 returns : tie.Need-returns
 returns c =
+    let variables = c .before .before .before .before .before .before .variables in
+    let links-norm = c .before .before .before .before .before .links-norm in
+    let rows-norm = c .before .before .before .before .rows-norm in
     let s = c .before .before .before .before .before .before .before .before .before .before in
-    norm-of (s .args .plan) (s .args .weights .now) (s .args .d .now) (s .args .beta .now) (c .before .before .before .before .before .before .variables .ensures) (c .before .before .before .before .before .links-norm .ensures) (c .before .before .before .before .rows-norm .ensures) (c .before .before .rows-norm2 .ensures) (c .before .larger .ensures) (c .larger2 .ensures)
+    norm-of (s .args .plan) (s .args .weights .now) (s .args .d .now) (s .args .beta .now) (variables .ensures) (links-norm .ensures) (rows-norm .ensures) (c .before .before .rows-norm2 .ensures) (c .before .larger .ensures) (c .larger2 .ensures)
 
 pub worst-spec : {M : Type 1} → statement M
 worst-spec =

@@ -43,21 +43,30 @@ part-refusal-requires c κs = call-within _ _ _ _ _ (accepted (c .before .before
 
 returns : tie.Need-returns
 returns c =
+    let plan = c .before .before .before .before .plan in
+    let r = c .before .before .before .before in
     let s = c .before .before .before .before .before .before .before .before .before .before .before in
-    norm-parts (s .args .p) (s .args .s) (s .args .n) (s .args .m) (s .args .t) (s .args .weights .now) (s .args .tables .now) (s .args .d .now) (s .args .beta .now) (c .before .before .before .before .plan .given .0 .0) (accepted (c .before .before .before .before)) (c .before .part-refusal .result) (parts (c .before)) (c .if1 .taken)
+    norm-parts (s .args .p) (s .args .s) (s .args .n) (s .args .m) (s .args .t) (s .args .weights .now) (s .args .tables .now) (s .args .d .now) (s .args .beta .now) (plan .given .0 .0) (accepted r) (c .before .part-refusal .result) (parts (c .before)) (c .if1 .taken)
 
 all-below-requires : tie.Need-all-below-requires
-all-below-requires c κs = omega (arith, prime-low (call-within _ _ _ _ _ (accepted (c .before .before .before .before))))
+all-below-requires c κs =
+    let r = c .before .before .before .before in
+    omega (arith, prime-low (call-within _ _ _ _ _ (accepted r)))
 
 returns-2 : tie.Need-returns-2
 returns-2 c =
+    let plan = c .before .before .before .before .before .before .plan in
+    let r1 = c .before .before .before .before .before .before in
+    let r2 = c .before .before .before in
     let s = c .before .before .before .before .before .before .before .before .before .before .before .before .before in
-    norm-values (s .args .p) (s .args .s) (s .args .n) (s .args .m) (s .args .t) (s .args .weights .now) (s .args .tables .now) (s .args .d .now) (s .args .beta .now) (c .before .before .before .before .before .before .plan .given .0 .0) (accepted (c .before .before .before .before .before .before)) (sym (c .before .before .if1 .left) ∙ parts (c .before .before .before)) (sym (c .before .all-below .ensures) ∙ not-true _ (c .if2 .taken))
+    norm-values (s .args .p) (s .args .s) (s .args .n) (s .args .m) (s .args .t) (s .args .weights .now) (s .args .tables .now) (s .args .d .now) (s .args .beta .now) (plan .given .0 .0) (accepted r1) (sym (c .before .before .if1 .left) ∙ parts r2) (sym (c .before .all-below .ensures) ∙ not-true _ (c .if2 .taken))
 
 worst-requires : tie.Need-worst-requires
 worst-requires c κs =
-    let within = call-within _ _ _ _ _ (accepted (c .before .before .before .before .before .before)) in
-    let lent = lent-of _ _ _ _ _ within (sym (parts (c .before .before .before)) ∙ c .before .before .if1 .left) in
+    let r1 = c .before .before .before .before .before .before in
+    let r2 = c .before .before .before in
+    let within = call-within _ _ _ _ _ (accepted r1) in
+    let lent = lent-of _ _ _ _ _ within (sym (parts r2) ∙ c .before .before .if1 .left) in
     (within, (lent .0 .weights-length, (lent .0 .products-length, eqb-true _ _ (lent .1))))
 
 returns-3 : tie.Need-returns-3
@@ -67,8 +76,12 @@ returns-3 c =
 
 returns-4 : tie.Need-returns-4
 returns-4 c =
+    let plan = c .before .before .before .before .before .before .before .plan in
+    let if1 = c .before .before .before .if1 in
+    let r1 = c .before .before .before .before .before .before .before in
+    let r2 = c .before .before .before .before in
     let s = c .before .before .before .before .before .before .before .before .before .before .before .before .before .before in
-    norm-answer (s .args .p) (s .args .s) (s .args .n) (s .args .m) (s .args .t) (s .args .weights .now) (s .args .tables .now) (s .args .d .now) (s .args .beta .now) (c .before .before .before .before .before .before .before .plan .given .0 .0) (accepted (c .before .before .before .before .before .before .before)) (sym (c .before .before .before .if1 .left) ∙ parts (c .before .before .before .before)) (c .worst .result) (sym (c .before .before .all-below .ensures) ∙ not-false _ (c .before .if2 .left)) (c .worst .ensures)
+    norm-answer (s .args .p) (s .args .s) (s .args .n) (s .args .m) (s .args .t) (s .args .weights .now) (s .args .tables .now) (s .args .d .now) (s .args .beta .now) (plan .given .0 .0) (accepted r1) (sym (if1 .left) ∙ parts r2) (c .worst .result) (sym (c .before .before .all-below .ensures) ∙ not-false _ (c .before .if2 .left)) (c .worst .ensures)
 
 pub worst-norm-spec : {M : Type 1} → statement M
 worst-norm-spec =

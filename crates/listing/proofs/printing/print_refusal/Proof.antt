@@ -24,8 +24,9 @@ same-length c = search needs
 returns : tie.Need-returns
 unfolding refused
 returns c =
+    let put-bytes = c .before .before .before .before .before .before .put-bytes in
     let s = c .before .before .before .before .before .before .before .before .before .before in
-    let l1 = left-next 13 42 refusalNames (left-none 64 (s .args .out .now) 0 (s .pre)) (omega arith) (omega arith) (c .before .before .before .before .before .before .put-bytes .ensures .0) (c .before .before .before .before .before .before .put-bytes .ensures .1) in
+    let l1 = left-next 13 42 refusalNames (left-none 64 (s .args .out .now) 0 (s .pre)) (omega arith) (omega arith) (put-bytes .ensures .0) (put-bytes .ensures .1) in
     let l2 = left-next 42 0 (line (s .args .cause ∷ s .args .line ∷ [])) l1 (two-most (s .args .cause) (s .args .line)) (omega arith) (c .before .before .put-pair .ensures .0) (c .before .before .put-pair .ensures .1) in
     (l2 .put .list, omega (arith, l2 .put .ends))
 

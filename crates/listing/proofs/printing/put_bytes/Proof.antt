@@ -31,7 +31,9 @@ loop-less : tie.Need-loop-less Inv-loop μ-loop
 loop-less c = omega arith
 
 loop-again : tie.Need-loop-again Inv-loop μ-loop
-loop-again c = (omega arith, put-copy _ _ (c .before .before .loop .inv .1) (c .before .loop-test .taken) (c .before .before .before .pre))
+loop-again c =
+    let pre = c .before .before .before .pre in
+    (omega arith, put-copy _ _ (c .before .before .loop .inv .1) (c .before .loop-test .taken) (pre))
 
 add-result : tie.Need-add-result Inv-loop μ-loop
 add-result c = omega arith

@@ -29,7 +29,10 @@ shared-slice-read-put-step : tie.Need-shared-slice-read-put-step Inv-loop μ-loo
 shared-slice-read-put-step c = omega arith
 
 cast-put-step : tie.Need-cast-put-step Inv-loop μ-loop
-cast-put-step c = omega (arith, c .before .before .before .before .before .before .pre .0 (4 * c .before .before .before .loop .i))
+cast-put-step c =
+    let pre = c .before .before .before .before .before .before .pre in
+    let loop = c .before .before .before .loop in
+    omega (arith, pre .0 (4 * loop .i))
 
 add-put-step : tie.Need-add-put-step Inv-loop μ-loop
 add-put-step c = omega arith
@@ -41,7 +44,10 @@ shared-slice-read-put-step-2 : tie.Need-shared-slice-read-put-step-2 Inv-loop μ
 shared-slice-read-put-step-2 c = omega arith
 
 cast-put-step-2 : tie.Need-cast-put-step-2 Inv-loop μ-loop
-cast-put-step-2 c = omega (arith, c .before .before .before .before .before .before .before .pre .0 (4 * c .before .before .before .before .loop .i + 1))
+cast-put-step-2 c =
+    let pre = c .before .before .before .before .before .before .before .pre in
+    let loop = c .before .before .before .before .loop in
+    omega (arith, pre .0 (4 * loop .i + 1))
 
 add-put-step-2 : tie.Need-add-put-step-2 Inv-loop μ-loop
 add-put-step-2 c = omega arith
@@ -53,7 +59,10 @@ shared-slice-read-put-step-3 : tie.Need-shared-slice-read-put-step-3 Inv-loop μ
 shared-slice-read-put-step-3 c = omega arith
 
 cast-put-step-3 : tie.Need-cast-put-step-3 Inv-loop μ-loop
-cast-put-step-3 c = omega (arith, c .before .before .before .before .before .before .before .before .pre .0 (4 * c .before .before .before .before .before .loop .i + 2))
+cast-put-step-3 c =
+    let pre = c .before .before .before .before .before .before .before .before .pre in
+    let loop = c .before .before .before .before .before .loop in
+    omega (arith, pre .0 (4 * loop .i + 2))
 
 add-put-step-3 : tie.Need-add-put-step-3 Inv-loop μ-loop
 add-put-step-3 c = omega arith
@@ -65,12 +74,16 @@ shared-slice-read-put-step-4 : tie.Need-shared-slice-read-put-step-4 Inv-loop μ
 shared-slice-read-put-step-4 c = omega arith
 
 cast-put-step-4 : tie.Need-cast-put-step-4 Inv-loop μ-loop
-cast-put-step-4 c = omega (arith, c .before .before .before .before .before .before .before .before .before .pre .0 (4 * c .before .before .before .before .before .before .loop .i + 3))
+cast-put-step-4 c =
+    let pre = c .before .before .before .before .before .before .before .before .before .pre in
+    let loop = c .before .before .before .before .before .before .loop in
+    omega (arith, pre .0 (4 * loop .i + 3))
 
 put-step-requires : tie.Need-put-step-requires Inv-loop μ-loop
 put-step-requires c κs =
+    let loop = c .before .before .before .before .before .before .loop in
     let s = c .before .before .before .before .before .before .before .before .before in
-    (lines-left (s .args .steps .now) (s .pre .0) (c .before .before .before .before .before .before .loop .i) (c .before .before .before .before .before .before .loop .inv .1) (c .before .before .before .before .before .loop-test .taken) (s .pre .1), (s .pre .0 (4 * c .before .before .before .before .before .before .loop .i), s .pre .0 (4 * c .before .before .before .before .before .before .loop .i + 1), s .pre .0 (4 * c .before .before .before .before .before .before .loop .i + 2), s .pre .0 (4 * c .before .before .before .before .before .before .loop .i + 3)))
+    (lines-left (s .args .steps .now) (s .pre .0) (loop .i) (loop .inv .1) (c .before .before .before .before .before .loop-test .taken) (s .pre .1), (s .pre .0 (4 * loop .i), s .pre .0 (4 * loop .i + 1), s .pre .0 (4 * loop .i + 2), s .pre .0 (4 * loop .i + 3)))
 
 add-i : tie.Need-add-i Inv-loop μ-loop
 add-i c = omega arith
@@ -80,15 +93,18 @@ loop-less c = omega arith
 
 loop-again : tie.Need-loop-again Inv-loop μ-loop
 loop-again c =
+    let loop = c .before .before .before .before .before .before .before .before .before .loop in
     let s = c .before .before .before .before .before .before .before .before .before .before .before .before in
-    (omega arith, lines-turn (s .args .steps .now) (s .pre .0) (c .before .before .before .before .before .before .before .before .before .loop .i) (c .before .before .before .before .before .before .before .before .before .loop .inv .1) (c .before .before .before .before .before .before .before .before .loop-test .taken) (s .pre .1) (c .before .before .put-step .ensures .0) (c .before .before .put-step .ensures .1))
+    (omega arith, lines-turn (s .args .steps .now) (s .pre .0) (loop .i) (loop .inv .1) (c .before .before .before .before .before .before .before .before .loop-test .taken) (s .pre .1) (c .before .before .put-step .ensures .0) (c .before .before .put-step .ensures .1))
 
 same-length : tie.Need-same-length Inv-loop μ-loop
 same-length c = put-length (c .before .loop .inv .1)
 
 returns : tie.Need-returns Inv-loop μ-loop
 returns c =
-    let r = lines-done (c .before .before .before .before .args .steps .now) (c .before .before .before .before .pre .0) (c .before .loop .i) (c .before .loop .inv .1) (c .before .loop .inv .0) (c .loop-test .left) in
+    let args = c .before .before .before .before .args in
+    let pre = c .before .before .before .before .pre in
+    let r = lines-done (args .steps .now) (pre .0) (c .before .loop .i) (c .before .loop .inv .1) (c .before .loop .inv .0) (c .loop-test .left) in
     (r .list, r .ends)
 
 pub put-steps-spec : {M : Type 1} → statement M

@@ -42,21 +42,29 @@ part-refusal-requires c κs = call-within _ _ _ _ _ (accepted (c .before .before
 
 returns : tie.Need-returns
 returns c =
+    let r = c .before .before .before .before in
     let pos = pos-of-ne-zero (c .if1 .taken) in
-    (call-parts _ _ _ _ _ _ _ _ _ _ _ (accepted (c .before .before .before .before)) _ (parts (c .before)) pos, sym (result-refused _ _ _ pos))
+    (call-parts _ _ _ _ _ _ _ _ _ _ _ (accepted r) _ (parts (c .before)) pos, sym (result-refused _ _ _ pos))
 
 entries-requires : tie.Need-entries-requires
-entries-requires c κs = call-within _ _ _ _ _ (accepted (c .before .before .before .before))
+entries-requires c κs =
+    let r = c .before .before .before .before in
+    call-within _ _ _ _ _ (accepted r)
 
 returns-2 : tie.Need-returns-2
 returns-2 c =
+    let r1 = c .before .before .before .before .before .before in
+    let r2 = c .before .before .before in
     let far = rw (c .before .entries .ensures) at (c .if2 .taken) in
-    (sym (call-passed _ _ _ _ _ _ _ _ _ _ _ (accepted (c .before .before .before .before .before .before)) (sym (c .before .before .if1 .left) ∙ parts (c .before .before .before)) ∙ rw (le-ltb _ _ far)), refl)
+    (sym (call-passed _ _ _ _ _ _ _ _ _ _ _ (accepted r1) (sym (c .before .before .if1 .left) ∙ parts r2) ∙ rw (le-ltb _ _ far)), refl)
 
 fill-row-requires : tie.Need-fill-row-requires
 fill-row-requires c κs =
-    let lent = lent-of _ _ _ _ _ (call-within _ _ _ _ _ (accepted (c .before .before .before .before .before .before .before))) (sym (parts (c .before .before .before .before)) ∙ c .before .before .before .if1 .left) in
-    (call-within _ _ _ _ _ (accepted (c .before .before .before .before .before .before .before)), (lent .0, eqb-true _ _ (lent .1)))
+    let if1 = c .before .before .before .if1 in
+    let r1 = c .before .before .before .before .before .before .before in
+    let r2 = c .before .before .before .before in
+    let lent = lent-of _ _ _ _ _ (call-within _ _ _ _ _ (accepted r1)) (sym (parts r2) ∙ if1 .left) in
+    (call-within _ _ _ _ _ (accepted r1), (lent .0, eqb-true _ _ (lent .1)))
 
 returns-3 : tie.Need-returns-3
 returns-3 c =
@@ -68,9 +76,14 @@ same-length c = search needs
 
 returns-4 : tie.Need-returns-4
 returns-4 c =
-    let near = rw (c .before .before .before .before .before .entries .ensures) at (c .before .before .before .before .if2 .left) in (
-      sym (call-passed _ _ _ _ _ _ _ _ _ _ _ (accepted (c .before .before .before .before .before .before .before .before .before .before)) (sym (c .before .before .before .before .before .before .if1 .left) ∙ parts (c .before .before .before .before .before .before .before)) ∙ rw (lt-ltb _ _ near)),
-      rw (call-plan _ _ _ _ _ (accepted (c .before .before .before .before .before .before .before .before .before .before))) (c .before .before .fill-row .ensures),
+    let entries = c .before .before .before .before .before .entries in
+    let if2 = c .before .before .before .before .if2 in
+    let if1 = c .before .before .before .before .before .before .if1 in
+    let r1 = c .before .before .before .before .before .before .before .before .before .before in
+    let r2 = c .before .before .before .before .before .before .before in
+    let near = rw (entries .ensures) at (if2 .left) in (
+      sym (call-passed _ _ _ _ _ _ _ _ _ _ _ (accepted r1) (sym (if1 .left) ∙ parts r2) ∙ rw (lt-ltb _ _ near)),
+      rw (call-plan _ _ _ _ _ (accepted r1)) (c .before .before .fill-row .ensures),
     )
 
 pub row-spec : {M : Type 1} → statement M

@@ -24,10 +24,11 @@ add-result c = omega arith
 
 returns : tie.Need-returns Inv-loop μ-loop
 returns c =
-    let pos : 0 < c .before .before .before .args .s = omega arith in
+    let args = c .before .before .before .args in
+    let pos : 0 < args .s = omega arith in
     let up = pow-le-pow-right pos (c .before .loop-test .taken) in
-    let e = pow-suc (c .before .before .before .args .s) (c .before .before .loop .i) in
-    let r = ap (λ (x : ℕ). x * c .before .before .before .args .s) (c .before .before .loop .inv .1) in
+    let e = pow-suc (args .s) (c .before .before .loop .i) in
+    let r = ap (λ (x : ℕ). x * args .s) (c .before .before .loop .inv .1) in
     sym (min-eq-right (omega (arith, up, e, r)))
 
 add-i : tie.Need-add-i Inv-loop μ-loop
@@ -37,7 +38,9 @@ loop-less : tie.Need-loop-less Inv-loop μ-loop
 loop-less c = omega arith
 
 loop-again : tie.Need-loop-again Inv-loop μ-loop
-loop-again c = (omega arith, ap (λ (x : ℕ). x * c .before .before .before .args .s) (c .before .before .loop .inv .1) ∙ sym (pow-suc (c .before .before .before .args .s) (c .before .before .loop .i)) ∙ ap (λ (x : ℕ). c .before .before .before .args .s ^ x) (sym (add-one (c .before .before .loop .i))), c .if1 .left)
+loop-again c =
+    let args = c .before .before .before .args in
+    (omega arith, ap (λ (x : ℕ). x * args .s) (c .before .before .loop .inv .1) ∙ sym (pow-suc (args .s) (c .before .before .loop .i)) ∙ ap (λ (x : ℕ). args .s ^ x) (sym (add-one (c .before .before .loop .i))), c .if1 .left)
 
 returns-2 : tie.Need-returns-2 Inv-loop μ-loop
 returns-2 c =

@@ -43,7 +43,9 @@ mul-if2 c =
 returns-2 : tie.Need-returns-2
 unfolding lengthsFit
 returns-2 c =
-    let e = link-weights (c .before .before .before .args .plan .n) (c .before .before .before .args .plan .m) (c .before .before .before .pre .digit-count) in
+    let args = c .before .before .before .args in
+    let pre = c .before .before .before .pre in
+    let e = link-weights (args .plan .n) (args .plan .m) (pre .digit-count) in
     rw (eq-eqb _ _ (c .before .before .if1 .left ∙ e), ne-eqb _ _ (c .if2 .taken))
 
 add-result : tie.Need-add-result
@@ -55,8 +57,11 @@ mul-result c = search needs
 returns-3 : tie.Need-returns-3
 unfolding lengthsFit
 returns-3 c =
-    let e = link-weights (c .before .before .before .before .args .plan .n) (c .before .before .before .before .args .plan .m) (c .before .before .before .before .pre .digit-count) in
-    rw (eq-eqb _ _ (c .before .before .before .if1 .left ∙ e), eq-eqb _ _ (c .before .if2 .left))
+    let args = c .before .before .before .before .args in
+    let pre = c .before .before .before .before .pre in
+    let if1 = c .before .before .before .if1 in
+    let e = link-weights (args .plan .n) (args .plan .m) (pre .digit-count) in
+    rw (eq-eqb _ _ (if1 .left ∙ e), eq-eqb _ _ (c .before .if2 .left))
 
 pub lengths-fit-spec : {M : Type 1} → statement M
 lengths-fit-spec =

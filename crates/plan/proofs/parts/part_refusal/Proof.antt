@@ -12,16 +12,26 @@ returns : tie.Need-returns
 returns c = rw (sym (c .before .lengths-fit .ensures) ∙ not-true _ (c .if1 .taken))
 
 returns-2 : tie.Need-returns-2
-returns-2 c = rw (sym (c .before .before .lengths-fit .ensures) ∙ not-false _ (c .before .if1 .left), not-true (c .before .before .before .before .before .before .args .own) (c .if2 .taken))
+returns-2 c =
+    let args = c .before .before .before .before .before .before .args in
+    rw (sym (c .before .before .lengths-fit .ensures) ∙ not-false _ (c .before .if1 .left), not-true (args .own) (c .if2 .taken))
 
 values-fit-requires : tie.Need-values-fit-requires
 values-fit-requires c κs = search needs
 
 returns-3 : tie.Need-returns-3
-returns-3 c = rw (sym (c .before .before .before .before .lengths-fit .ensures) ∙ not-false _ (c .before .before .before .if1 .left), not-false (c .before .before .before .before .before .before .before .before .args .own) (c .before .before .if2 .left), sym (c .before .values-fit .ensures) ∙ not-true _ (c .if3 .taken))
+returns-3 c =
+    let lengths-fit = c .before .before .before .before .lengths-fit in
+    let if1 = c .before .before .before .if1 in
+    let args = c .before .before .before .before .before .before .before .before .args in
+    rw (sym (lengths-fit .ensures) ∙ not-false _ (if1 .left), not-false (args .own) (c .before .before .if2 .left), sym (c .before .values-fit .ensures) ∙ not-true _ (c .if3 .taken))
 
 returns-4 : tie.Need-returns-4
-returns-4 c = rw (sym (c .before .before .before .before .lengths-fit .ensures) ∙ not-false _ (c .before .before .before .if1 .left), not-false (c .before .before .before .before .before .before .before .before .args .own) (c .before .before .if2 .left), sym (c .before .values-fit .ensures) ∙ not-false _ (c .if3 .left))
+returns-4 c =
+    let lengths-fit = c .before .before .before .before .lengths-fit in
+    let if1 = c .before .before .before .if1 in
+    let args = c .before .before .before .before .before .before .before .before .args in
+    rw (sym (lengths-fit .ensures) ∙ not-false _ (if1 .left), not-false (args .own) (c .before .before .if2 .left), sym (c .before .values-fit .ensures) ∙ not-false _ (c .if3 .left))
 
 pub part-refusal-spec : {M : Type 1} → statement M
 part-refusal-spec =

@@ -18,14 +18,19 @@ all-below-requires-2 c κs = search needs
 
 returns-2 : tie.Need-returns-2
 unfolding valuesFit
-returns-2 c = rw (sym (c .before .before .before .all-below .ensures) ∙ not-false _ (c .before .before .if1 .left), sym (c .before .all-below2 .ensures) ∙ not-true _ (c .if2 .taken))
+returns-2 c =
+    let all-below = c .before .before .before .all-below in
+    rw (sym (all-below .ensures) ∙ not-false _ (c .before .before .if1 .left), sym (c .before .all-below2 .ensures) ∙ not-true _ (c .if2 .taken))
 
 all-below-requires-3 : tie.Need-all-below-requires-3
 all-below-requires-3 c κs = search needs
 
 returns-3 : tie.Need-returns-3
 unfolding valuesFit
-returns-3 c = rw (sym (c .before .before .before .before .all-below .ensures) ∙ not-false _ (c .before .before .before .if1 .left), sym (c .before .before .all-below2 .ensures) ∙ not-false _ (c .before .if2 .left)) (c .all-below3 .ensures)
+returns-3 c =
+    let all-below = c .before .before .before .before .all-below in
+    let if1 = c .before .before .before .if1 in
+    rw (sym (all-below .ensures) ∙ not-false _ (if1 .left), sym (c .before .before .all-below2 .ensures) ∙ not-false _ (c .before .if2 .left)) (c .all-below3 .ensures)
 
 pub values-fit-spec : {M : Type 1} → statement M
 values-fit-spec =

@@ -26,12 +26,16 @@ entries-requires : tie.Need-entries-requires Inv-loop μ-loop
 entries-requires c κs = c .before .before .pre .0
 
 loop-holds : tie.Need-loop-holds Inv-loop μ-loop
-loop-holds c = (written-none _ _ _ (c .before .before .before .pre .1), c .entries .ensures ∙ ap (λ (k : ℕ). c .before .before .before .args .plan .s ^ k) (sym (sub-zero _)))
+loop-holds c =
+    let pre = c .before .before .before .pre in
+    let args = c .before .before .before .args in
+    (written-none _ _ _ (pre .1), c .entries .ensures ∙ ap (λ (k : ℕ). args .plan .s ^ k) (sym (sub-zero _)))
 
 -- the next digit's weight
 weight : (c : tie.Then1 Inv-loop μ-loop) → c .before .before .loop .q / c .before .before .before .before .before .before .args .plan .s ≡ c .before .before .before .before .before .before .args .plan .s ^ (c .before .before .before .before .before .before .args .plan .n - suc (c .before .before .loop .j))
 weight c =
-    let P = c .before .before .before .before .before .before .args .plan in
+    let args = c .before .before .before .before .before .before .args in
+    let P = args .plan in
     let pos : 0 < P .s = omega arith in
     rw (c .before .before .loop .inv .1) (weight-next (P .s) (P .n) (c .before .before .loop .j) pos (c .if1 .taken))
 
@@ -39,15 +43,19 @@ div-q : tie.Need-div-q Inv-loop μ-loop
 div-q c = omega arith
 
 div-x : tie.Need-div-x Inv-loop μ-loop
-div-x c = omega (arith, weight c, weight-positive (c .before .before .before .before .before .before .args .plan .s) (c .before .before .before .before .before .before .args .plan .n - suc (c .before .before .loop .j)) (omega arith))
+div-x c =
+    let args = c .before .before .before .before .before .before .args in
+    omega (arith, weight c, weight-positive (args .plan .s) (args .plan .n - suc (c .before .before .loop .j)) (omega arith))
 
 rem-x : tie.Need-rem-x Inv-loop μ-loop
 rem-x c = omega arith
 
 cast-x : tie.Need-cast-x Inv-loop μ-loop
 cast-x c =
-    let pos : 0 < c .before .before .before .before .before .before .args .plan .s = omega arith in
-    omega (arith, mod-lt (c .before .before .before .before .before .before .args .entry / (c .before .before .loop .q / c .before .before .before .before .before .before .args .plan .s)) pos, prime-high (c .before .before .before .before .before .before .pre .0))
+    let args = c .before .before .before .before .before .before .args in
+    let pre = c .before .before .before .before .before .before .pre in
+    let pos : 0 < args .plan .s = omega arith in
+    omega (arith, mod-lt (args .entry / (c .before .before .loop .q / args .plan .s)) pos, prime-high (pre .0))
 
 slice-write-x : tie.Need-slice-write-x Inv-loop μ-loop
 slice-write-x c = omega arith
@@ -60,10 +68,11 @@ loop-less c = omega arith
 
 loop-again : tie.Need-loop-again Inv-loop μ-loop
 unfolding digit
-loop-again c = (
-  written-next _ (c .before .before .loop .inv .0) (c .if1 .taken) (ap (λ (z : ℕ). c .before .before .before .before .before .before .args .entry / z % c .before .before .before .before .before .before .args .plan .s) (weight c)),
-  weight c ∙ ap (λ (k : ℕ). c .before .before .before .before .before .before .args .plan .s ^ (c .before .before .before .before .before .before .args .plan .n - k)) (sym (add-one (c .before .before .loop .j))),
-)
+loop-again c =
+    let args = c .before .before .before .before .before .before .args in (
+      written-next _ (c .before .before .loop .inv .0) (c .if1 .taken) (ap (λ (z : ℕ). args .entry / z % args .plan .s) (weight c)),
+      weight c ∙ ap (λ (k : ℕ). args .plan .s ^ (args .plan .n - k)) (sym (add-one (c .before .before .loop .j))),
+    )
 
 same-length : tie.Need-same-length Inv-loop μ-loop
 same-length c = omega arith

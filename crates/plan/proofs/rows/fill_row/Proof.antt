@@ -23,7 +23,9 @@ slice-aggregate-fill-variables : tie.Need-slice-aggregate-fill-variables
 slice-aggregate-fill-variables c = sym (length-take-le (c .before .variables .result) _ (omega arith))
 
 fill-variables-requires : tie.Need-fill-variables-requires
-fill-variables-requires c κs = (c .before .before .before .before .before .before .pre .0, (c .before .before .before .before .before .before .pre .1 .0, length-take-le (c .before .variables .result) _ (omega arith) ∙ c .before .variables .ensures))
+fill-variables-requires c κs =
+    let pre = c .before .before .before .before .before .before .pre in
+    (pre .0, (pre .1 .0, length-take-le (c .before .variables .result) _ (omega arith) ∙ c .before .variables .ensures))
 
 count : (c : tie.After-fill-variables) → length (c .fill-variables .last .1 .1 .1 .1 .1 .0) ≡ c .before .before .variables .result
 count c = ap length (c .fill-variables .ensures) ∙ values-length _ _ _ _ ∙ sym (c .before .before .variables .ensures)
@@ -36,18 +38,23 @@ array-share-prefix-x : tie.Need-array-share-prefix-x
 array-share-prefix-x c = simp length-append (omega (arith, count (c .before)))
 
 slice-aggregate-fill-blocks : tie.Need-slice-aggregate-fill-blocks
-slice-aggregate-fill-blocks c = sym (ap length (front (c .before .before) _) ∙ values-length _ _ _ _ ∙ sym (c .before .before .before .before .variables .ensures))
+slice-aggregate-fill-blocks c =
+    let variables = c .before .before .before .before .variables in
+    sym (ap length (front (c .before .before) _) ∙ values-length _ _ _ _ ∙ sym (variables .ensures))
 
 fill-blocks-requires : tie.Need-fill-blocks-requires
 fill-blocks-requires c κs =
-    let P = c .before .before .before .before .before .before .before .before .before .before .args .plan in
-    let x = front (c .before .before .before) _ in (
-      c .before .before .before .before .before .before .before .before .before .before .pre .0,
+    let args = c .before .before .before .before .before .before .before .before .before .before .args in
+    let pre = c .before .before .before .before .before .before .before .before .before .before .pre in
+    let r = c .before .before .before in
+    let P = args .plan in
+    let x = front r _ in (
+      pre .0,
       (
-        c .before .before .before .before .before .before .before .before .before .before .pre .1 .0 .products-length,
+        pre .1 .0 .products-length,
         (
-          (ap length x ∙ values-length _ _ _ _, λ i. subst⁻¹ (λ (xs : List ℕ). at xs i < P .p) x (values-residues _ _ _ _ (c .before .before .before .before .before .before .before .before .before .before .pre .0) (c .before .before .before .before .before .before .before .before .before .before .pre .1 .0 .tables-residues) i)),
-          c .before .before .before .before .before .before .before .before .before .before .pre .1 .1,
+          (ap length x ∙ values-length _ _ _ _, λ i. subst⁻¹ (λ (xs : List ℕ). at xs i < P .p) x (values-residues _ _ _ _ (pre .0) (pre .1 .0 .tables-residues) i)),
+          pre .1 .1,
         ),
       ),
     )
@@ -57,7 +64,10 @@ same-length c = search needs
 
 returns : tie.Need-returns
 unfolding row
-returns c = c .before .before .fill-blocks .ensures ∙ ap (λ (xs : List ℕ). tab (columns (c .before .before .before .before .before .before .before .before .before .before .before .before .before .args .plan)) (rowPlace (c .before .before .before .before .before .before .before .before .before .before .before .before .before .args .plan) (c .before .before .before .before .before .before .before .before .before .before .before .before .before .args .d .now) xs)) (front (c .before .before .before .before .before .before) _)
+returns c =
+    let args = c .before .before .before .before .before .before .before .before .before .before .before .before .before .args in
+    let r = c .before .before .before .before .before .before in
+    c .before .before .fill-blocks .ensures ∙ ap (λ (xs : List ℕ). tab (columns (args .plan)) (rowPlace (args .plan) (args .d .now) xs)) (front r _)
 
 pub fill-row-spec : {M : Type 1} → statement M
 fill-row-spec =

@@ -25,25 +25,42 @@ slice-relend-prefix-fill-digits : tie.Need-slice-relend-prefix-fill-digits Inv-l
 slice-relend-prefix-fill-digits c = omega arith
 
 slice-aggregate-fill-digits : tie.Need-slice-aggregate-fill-digits Inv-loop μ-loop
-slice-aggregate-fill-digits c = sym (length-take-le (c .before .before .before .before .before .args .plan .n) (c .before .before .before .before .before .args .x .now) (omega arith))
+slice-aggregate-fill-digits c =
+    let args = c .before .before .before .before .before .args in
+    sym (length-take-le (args .plan .n) (args .x .now) (omega arith))
 
 fill-digits-requires : tie.Need-fill-digits-requires Inv-loop μ-loop
-fill-digits-requires c κs = (c .before .before .before .before .before .pre .0, length-take-le (c .before .before .before .before .before .args .plan .n) (c .before .before .before .before .before .args .x .now) (omega arith))
+fill-digits-requires c κs =
+    let pre = c .before .before .before .before .before .pre in
+    let args = c .before .before .before .before .before .args in
+    (pre .0, length-take-le (args .plan .n) (args .x .now) (omega arith))
 
 loop-holds : tie.Need-loop-holds Inv-loop μ-loop
-loop-holds c = linked-none _ _ _ _ (c .before .before .fill-digits .last .1 .1 .0) (c .before .before .before .before .before .before .before .before .args .x .now) (c .before .before .fill-digits .ensures) (c .before .before .before .before .before .before .before .before .pre .1 .1)
+loop-holds c =
+    let args = c .before .before .before .before .before .before .before .before .args in
+    let pre = c .before .before .before .before .before .before .before .before .pre in
+    linked-none _ _ _ _ (c .before .before .fill-digits .last .1 .1 .0) (args .x .now) (c .before .before .fill-digits .ensures) (pre .1 .1)
 
 add-place : tie.Need-add-place Inv-loop μ-loop
 add-place c = omega arith
 
 add-end : tie.Need-add-end Inv-loop μ-loop
-add-end c = omega (arith, link-room (c .before .before .before .before .before .before .before .before .before .before .before .args .plan) (c .before .before .before .before .before .before .before .before .before .before .before .args .weights .now) (c .before .before .loop .begin) (c .before .before .loop .k) (c .before .before .before .before .before .before .before .before .before .before .before .pre .1 .0 .weights-length) (c .before .before .loop .inv .begins) (c .if1 .taken))
+add-end c =
+    let args = c .before .before .before .before .before .before .before .before .before .before .before .args in
+    let pre = c .before .before .before .before .before .before .before .before .before .before .before .pre in
+    omega (arith, link-room (args .plan) (args .weights .now) (c .before .before .loop .begin) (c .before .before .loop .k) (pre .1 .0 .weights-length) (c .before .before .loop .inv .begins) (c .if1 .taken))
 
 mul-table : tie.Need-mul-table Inv-loop μ-loop
-mul-table c = omega (arith, table-room (c .before .before .before .before .before .before .before .before .before .before .before .args .plan) (c .before .before .before .before .before .before .before .before .before .before .before .args .tables .now) (c .before .before .loop .k) (c .before .before .before .before .before .before .before .before .before .before .before .pre .1 .0 .tables-length) (c .if1 .taken))
+mul-table c =
+    let args = c .before .before .before .before .before .before .before .before .before .before .before .args in
+    let pre = c .before .before .before .before .before .before .before .before .before .before .before .pre in
+    omega (arith, table-room (args .plan) (args .tables .now) (c .before .before .loop .k) (pre .1 .0 .tables-length) (c .if1 .taken))
 
 add-table-end : tie.Need-add-table-end Inv-loop μ-loop
-add-table-end c = omega (arith, table-room (c .before .before .before .before .before .before .before .before .before .before .before .args .plan) (c .before .before .before .before .before .before .before .before .before .before .before .args .tables .now) (c .before .before .loop .k) (c .before .before .before .before .before .before .before .before .before .before .before .pre .1 .0 .tables-length) (c .if1 .taken))
+add-table-end c =
+    let args = c .before .before .before .before .before .before .before .before .before .before .before .args in
+    let pre = c .before .before .before .before .before .before .before .before .before .before .before .pre in
+    omega (arith, table-room (args .plan) (args .tables .now) (c .before .before .loop .k) (pre .1 .0 .tables-length) (c .if1 .taken))
 
 sub-link : tie.Need-sub-link Inv-loop μ-loop
 sub-link c = omega arith
@@ -52,7 +69,10 @@ part-link-start : tie.Need-part-link-start Inv-loop μ-loop
 part-link-start c = omega arith
 
 part-link-end : tie.Need-part-link-end Inv-loop μ-loop
-part-link-end c = link-room (c .before .before .before .before .before .before .before .before .before .before .before .args .plan) (c .before .before .before .before .before .before .before .before .before .before .before .args .weights .now) (c .before .before .loop .begin) (c .before .before .loop .k) (c .before .before .before .before .before .before .before .before .before .before .before .pre .1 .0 .weights-length) (c .before .before .loop .inv .begins) (c .if1 .taken)
+part-link-end c =
+    let args = c .before .before .before .before .before .before .before .before .before .before .before .args in
+    let pre = c .before .before .before .before .before .before .before .before .before .before .before .pre in
+    link-room (args .plan) (args .weights .now) (c .before .before .loop .begin) (c .before .before .loop .k) (pre .1 .0 .weights-length) (c .before .before .loop .inv .begins) (c .if1 .taken)
 
 sub-link-2 : tie.Need-sub-link-2 Inv-loop μ-loop
 sub-link-2 c = omega arith
@@ -61,20 +81,30 @@ part-link-start-2 : tie.Need-part-link-start-2 Inv-loop μ-loop
 part-link-start-2 c = omega arith
 
 part-link-end-2 : tie.Need-part-link-end-2 Inv-loop μ-loop
-part-link-end-2 c = table-room (c .before .before .before .before .before .before .before .before .before .before .before .before .args .plan) (c .before .before .before .before .before .before .before .before .before .before .before .before .args .tables .now) (c .before .before .before .loop .k) (c .before .before .before .before .before .before .before .before .before .before .before .before .pre .1 .0 .tables-length) (c .before .if1 .taken)
+part-link-end-2 c =
+    let args = c .before .before .before .before .before .before .before .before .before .before .before .before .args in
+    let loop = c .before .before .before .loop in
+    let pre = c .before .before .before .before .before .before .before .before .before .before .before .before .pre in
+    table-room (args .plan) (args .tables .now) (loop .k) (pre .1 .0 .tables-length) (c .before .if1 .taken)
 
 slice-reshare-prefix-link : tie.Need-slice-reshare-prefix-link Inv-loop μ-loop
 slice-reshare-prefix-link c = omega arith
 
 slice-aggregate-link : tie.Need-slice-aggregate-link Inv-loop μ-loop
-slice-aggregate-link c = sym (length-take-le _ (c .before .before .before .before .before .loop .x) (omega arith))
+slice-aggregate-link c =
+    let loop = c .before .before .before .before .before .loop in
+    sym (length-take-le _ (loop .x) (omega arith))
 
 link-requires : tie.Need-link-requires Inv-loop μ-loop
 link-requires c κs =
-    let P = c .before .before .before .before .before .before .before .before .before .before .before .before .before .before .args .plan in
-    let cut = cut-length (c .before .before .before .before .before .before .before .before .before .before .before .before .before .before .args .weights .now) (c .before .before .before .before .before .loop .begin) (P .n + c .before .before .before .before .before .loop .k) (link-room P (c .before .before .before .before .before .before .before .before .before .before .before .before .before .before .args .weights .now) (c .before .before .before .before .before .loop .begin) (c .before .before .before .before .before .loop .k) (c .before .before .before .before .before .before .before .before .before .before .before .before .before .before .pre .1 .0 .weights-length) (c .before .before .before .before .before .loop .inv .begins) (c .before .before .before .if1 .taken)) in
-    let table = cut-length (c .before .before .before .before .before .before .before .before .before .before .before .before .before .before .args .tables .now) (c .before .before .before .before .before .loop .k * P .p) (P .p) (table-room P (c .before .before .before .before .before .before .before .before .before .before .before .before .before .before .args .tables .now) (c .before .before .before .before .before .loop .k) (c .before .before .before .before .before .before .before .before .before .before .before .before .before .before .pre .1 .0 .tables-length) (c .before .before .before .if1 .taken)) in
-    (modulus (c .before .before .before .before .before .before .before .before .before .before .before .before .before .before .pre .0), (length-take-le _ (c .before .before .before .before .before .loop .x) (omega arith) ∙ sym cut, (omega (arith, cut), table)))
+    let args = c .before .before .before .before .before .before .before .before .before .before .before .before .before .before .args in
+    let loop = c .before .before .before .before .before .loop in
+    let pre = c .before .before .before .before .before .before .before .before .before .before .before .before .before .before .pre in
+    let if1 = c .before .before .before .if1 in
+    let P = args .plan in
+    let cut = cut-length (args .weights .now) (loop .begin) (P .n + loop .k) (link-room P (args .weights .now) (loop .begin) (loop .k) (pre .1 .0 .weights-length) (loop .inv .begins) (if1 .taken)) in
+    let table = cut-length (args .tables .now) (loop .k * P .p) (P .p) (table-room P (args .tables .now) (loop .k) (pre .1 .0 .tables-length) (if1 .taken)) in
+    (modulus (pre .0), (length-take-le _ (loop .x) (omega arith) ∙ sym cut, (omega (arith, cut), table)))
 
 slice-write-x : tie.Need-slice-write-x Inv-loop μ-loop
 slice-write-x c = omega arith
@@ -87,16 +117,22 @@ loop-less c = omega arith
 
 loop-again : tie.Need-loop-again Inv-loop μ-loop
 loop-again c =
-    let P = c .before .before .before .before .before .before .before .before .before .before .before .before .before .before .before .args .plan in
-    linked-next (c .link .result) (c .before .before .before .before .before .before .loop .inv) (c .before .before .before .before .if1 .taken)
+    let args = c .before .before .before .before .before .before .before .before .before .before .before .before .before .before .before .args in
+    let loop = c .before .before .before .before .before .before .loop in
+    let if1 = c .before .before .before .before .if1 in
+    let pre = c .before .before .before .before .before .before .before .before .before .before .before .before .before .before .before .pre in
+    let P = args .plan in
+    linked-next (c .link .result) (loop .inv) (if1 .taken)
     (c .link .ensures
-    ∙ rw (c .before .before .before .before .before .before .loop .inv .done)
-    (link-of-parts P (c .before .before .before .before .before .before .before .before .before .before .before .before .before .before .before .args .weights .now) (c .before .before .before .before .before .before .before .before .before .before .before .before .before .before .before .args .tables .now) (chain P (c .before .before .before .before .before .before .before .before .before .before .before .before .before .before .before .args .weights .now) (c .before .before .before .before .before .before .before .before .before .before .before .before .before .before .before .args .tables .now) (c .before .before .before .before .before .before .before .before .before .before .before .before .before .before .before .args .entry) (c .before .before .before .before .before .before .loop .k)) (c .before .before .before .before .before .before .loop .begin) (c .before .before .before .before .before .before .loop .k) (c .before .before .before .before .before .before .loop .inv .begins)
-    (link-room P (c .before .before .before .before .before .before .before .before .before .before .before .before .before .before .before .args .weights .now) (c .before .before .before .before .before .before .loop .begin) (c .before .before .before .before .before .before .loop .k) (c .before .before .before .before .before .before .before .before .before .before .before .before .before .before .before .pre .1 .0 .weights-length) (c .before .before .before .before .before .before .loop .inv .begins) (c .before .before .before .before .if1 .taken))
-    (omega (arith, prime-low (c .before .before .before .before .before .before .before .before .before .before .before .before .before .before .before .pre .0)))))
+    ∙ rw (loop .inv .done)
+    (link-of-parts P (args .weights .now) (args .tables .now) (chain P (args .weights .now) (args .tables .now) (args .entry) (loop .k)) (loop .begin) (loop .k) (loop .inv .begins)
+    (link-room P (args .weights .now) (loop .begin) (loop .k) (pre .1 .0 .weights-length) (loop .inv .begins) (if1 .taken))
+    (omega (arith, prime-low (pre .0)))))
 
 same-length : tie.Need-same-length Inv-loop μ-loop
-same-length c = c .before .before .loop .inv .size ∙ sym (c .before .before .before .before .before .before .before .before .before .before .before .pre .1 .1)
+same-length c =
+    let pre = c .before .before .before .before .before .before .before .before .before .before .before .pre in
+    c .before .before .loop .inv .size ∙ sym (pre .1 .1)
 
 returns : tie.Need-returns Inv-loop μ-loop
 returns c = linked-all (c .before .before .loop .inv) (c .if1 .left)

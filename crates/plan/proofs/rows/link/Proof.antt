@@ -17,12 +17,15 @@ cast-result c = search needs
 
 shared-slice-read-result : tie.Need-shared-slice-read-result
 shared-slice-read-result c =
-    let pos : 0 < c .before .before .before .before .before .args .p = omega arith in
-    let l = mod-lt (dot (c .before .before .before .before .before .args .weights .now) (c .before .before .before .before .before .args .x .now) (length (c .before .before .before .before .before .args .weights .now))) pos in
+    let args = c .before .before .before .before .before .args in
+    let pos : 0 < args .p = omega arith in
+    let l = mod-lt (dot (args .weights .now) (args .x .now) (length (args .weights .now))) pos in
     omega (arith, l, c .before .dot .ensures)
 
 returns : tie.Need-returns
-returns c = ap (λ (z : ℕ). getD (c .before .before .before .before .before .args .table .now) z 0) (c .before .dot .ensures)
+returns c =
+    let args = c .before .before .before .before .before .args in
+    ap (λ (z : ℕ). getD (args .table .now) z 0) (c .before .dot .ensures)
 
 pub link-spec : {M : Type 1} → statement M
 link-spec = tie.close (tie.spec dot-requires cast-result shared-slice-read-result returns)

@@ -36,34 +36,60 @@ part-refusal-requires : tie.Need-part-refusal-requires
 part-refusal-requires c κs = call-within _ _ _ _ _ (accepted (c .before .before))
 
 returns : tie.Need-returns
-returns c = run-parts _ _ _ _ _ _ _ _ _ _ _ _ _ (accepted (c .before .before .before .before)) _ (c .before .part-refusal .ensures) (pos-of-ne-zero (c .if1 .taken))
+returns c =
+    let r = c .before .before .before .before in
+    run-parts _ _ _ _ _ _ _ _ _ _ _ _ _ (accepted r) _ (c .before .part-refusal .ensures) (pos-of-ne-zero (c .if1 .taken))
 
 well-formed-requires : tie.Need-well-formed-requires
-well-formed-requires c κs = call-within _ _ _ _ _ (accepted (c .before .before .before .before))
+well-formed-requires c κs =
+    let r = c .before .before .before .before in
+    call-within _ _ _ _ _ (accepted r)
 
 returns-2 : tie.Need-returns-2
-returns-2 c = run-eleven _ _ _ _ _ _ _ _ _ _ _ _ _ (accepted (c .before .before .before .before .before .before)) (sym (c .before .before .if1 .left) ∙ c .before .before .before .part-refusal .ensures) (sym (c .before .well-formed .ensures) ∙ not-true _ (c .if2 .taken))
+returns-2 c =
+    let part-refusal = c .before .before .before .part-refusal in
+    let r = c .before .before .before .before .before .before in
+    run-eleven _ _ _ _ _ _ _ _ _ _ _ _ _ (accepted r) (sym (c .before .before .if1 .left) ∙ part-refusal .ensures) (sym (c .before .well-formed .ensures) ∙ not-true _ (c .if2 .taken))
 
 all-below-requires : tie.Need-all-below-requires
-all-below-requires c κs = omega (arith, call-within _ _ _ _ _ (accepted (c .before .before .before .before .before .before)) .radix-low)
+all-below-requires c κs =
+    let r = c .before .before .before .before .before .before in
+    omega (arith, call-within _ _ _ _ _ (accepted r) .radix-low)
 
 returns-3 : tie.Need-returns-3
-returns-3 c = run-twelve _ _ _ _ _ _ _ _ _ _ _ _ _ (accepted (c .before .before .before .before .before .before .before .before)) (sym (c .before .before .before .before .if1 .left) ∙ c .before .before .before .before .before .part-refusal .ensures) (sym (c .before .before .before .well-formed .ensures) ∙ not-false _ (c .before .before .if2 .left)) (sym (c .before .all-below .ensures) ∙ not-true _ (c .if3 .taken))
+returns-3 c =
+    let if1 = c .before .before .before .before .if1 in
+    let part-refusal = c .before .before .before .before .before .part-refusal in
+    let well-formed = c .before .before .before .well-formed in
+    let r = c .before .before .before .before .before .before .before .before in
+    run-twelve _ _ _ _ _ _ _ _ _ _ _ _ _ (accepted r) (sym (if1 .left) ∙ part-refusal .ensures) (sym (well-formed .ensures) ∙ not-false _ (c .before .before .if2 .left)) (sym (c .before .all-below .ensures) ∙ not-true _ (c .if3 .taken))
 
 run-steps-requires : tie.Need-run-steps-requires
 run-steps-requires c κs =
-    let within = call-within _ _ _ _ _ (accepted (c .before .before .before .before .before .before .before .before)) in
-    let lent = lent-of (c .before .before .before .before .before .before .before .before .plan .given .0 .0) (c .before .before .before .before .before .before .before .before .before .before .before .before .before .before .before .before .args .weights .now) (c .before .before .before .before .before .before .before .before .before .before .before .before .before .before .before .before .args .tables .now) (c .before .before .before .before .before .before .before .before .before .before .before .before .before .before .before .before .args .d .now) _ within (sym (c .before .before .before .before .before .part-refusal .ensures) ∙ c .before .before .before .before .if1 .left) in
-    (within, ((lent .0 .tables-length, lent .0 .tables-residues), (sym (c .before .before .before .well-formed .ensures) ∙ not-false _ (c .before .before .if2 .left), (eqb-true _ _ (lent .1), digit-residues (c .before .before .before .before .before .before .before .before .plan .given .0 .0) (c .before .before .before .before .before .before .before .before .before .before .before .before .before .before .before .before .args .digits .now) within (sym (c .before .all-below .ensures) ∙ not-false _ (c .if3 .left))))))
+    let plan = c .before .before .before .before .before .before .before .before .plan in
+    let args = c .before .before .before .before .before .before .before .before .before .before .before .before .before .before .before .before .args in
+    let part-refusal = c .before .before .before .before .before .part-refusal in
+    let if1 = c .before .before .before .before .if1 in
+    let well-formed = c .before .before .before .well-formed in
+    let r = c .before .before .before .before .before .before .before .before in
+    let within = call-within _ _ _ _ _ (accepted r) in
+    let lent = lent-of (plan .given .0 .0) (args .weights .now) (args .tables .now) (args .d .now) _ within (sym (part-refusal .ensures) ∙ if1 .left) in
+    (within, ((lent .0 .tables-length, lent .0 .tables-residues), (sym (well-formed .ensures) ∙ not-false _ (c .before .before .if2 .left), (eqb-true _ _ (lent .1), digit-residues (plan .given .0 .0) (args .digits .now) within (sym (c .before .all-below .ensures) ∙ not-false _ (c .if3 .left))))))
 
 returns-4 : tie.Need-returns-4
 returns-4 c = run-numbers _ _ _ _ _ _ _ _ _ _ _ _ _ (refused (c .before))
 
 returns-5 : tie.Need-returns-5
 returns-5 c =
-    let a = c .before .before .before .before .before .before .before .before .before .before .before .before .before .before .before .before .before .args in
-    c .run-steps .ensures ∙ ap (λ (P : Plan). Done (output P (a .tables .now) (a .steps .now) (a .digits .now)) (bootstraps (a .steps .now))) (sym (call-plan _ _ _ _ _ (accepted (c .before .before .before .before .before .before .before .before .before))))
-    ∙ run-done _ _ _ _ _ _ _ _ _ _ _ _ _ (accepted (c .before .before .before .before .before .before .before .before .before)) (sym (c .before .before .before .before .before .if1 .left) ∙ c .before .before .before .before .before .before .part-refusal .ensures) (sym (c .before .before .before .before .well-formed .ensures) ∙ not-false _ (c .before .before .before .if2 .left)) (sym (c .before .before .all-below .ensures) ∙ not-false _ (c .before .if3 .left))
+    let args = c .before .before .before .before .before .before .before .before .before .before .before .before .before .before .before .before .before .args in
+    let if1 = c .before .before .before .before .before .if1 in
+    let part-refusal = c .before .before .before .before .before .before .part-refusal in
+    let well-formed = c .before .before .before .before .well-formed in
+    let if2 = c .before .before .before .if2 in
+    let r = c .before .before .before .before .before .before .before .before .before in
+    let a = args in
+    c .run-steps .ensures ∙ ap (λ (P : Plan). Done (output P (a .tables .now) (a .steps .now) (a .digits .now)) (bootstraps (a .steps .now))) (sym (call-plan _ _ _ _ _ (accepted r)))
+    ∙ run-done _ _ _ _ _ _ _ _ _ _ _ _ _ (accepted r) (sym (if1 .left) ∙ part-refusal .ensures) (sym (well-formed .ensures) ∙ not-false _ (if2 .left)) (sym (c .before .before .all-below .ensures) ∙ not-false _ (c .before .if3 .left))
 
 pub run-spec : {M : Type 1} → statement M
 run-spec =

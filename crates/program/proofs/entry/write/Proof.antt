@@ -25,7 +25,9 @@ slice-aggregate-result : tie.Need-slice-aggregate-result
 slice-aggregate-result c = search needs
 
 returns : tie.Need-returns
-returns c = (handed-refused _ _ _ _ _ (λ e. c .before .if1 .taken (c .before .before .before .before .write-into .ensures .0 ∙ e)), refl)
+returns c =
+    let write-into = c .before .before .before .before .write-into in
+    (handed-refused _ _ _ _ _ (λ e. c .before .if1 .taken (write-into .ensures .0 ∙ e)), refl)
 
 abbrev called : tie.Else1 → tie.After-write-into
 called c = c .before .before .before
@@ -51,10 +53,14 @@ mul-end : tie.Need-mul-end
 mul-end c = omega (arith, counted (c), step-limit (planned (c .before)) (fine (c .before) .0))
 
 slice-aggregate-result-2 : tie.Need-slice-aggregate-result-2
-slice-aggregate-result-2 c = sym (length-take-le _ _ (omega (arith, counted (c .before), fits (c .before .before), c .before .before .before .before .before .write-into .kept .1 .1 .1 .1 .1 .1 .1 .1 .1 .0)))
+slice-aggregate-result-2 c =
+    let write-into = c .before .before .before .before .before .write-into in
+    sym (length-take-le _ _ (omega (arith, counted (c .before), fits (c .before .before), write-into .kept .1 .1 .1 .1 .1 .1 .1 .1 .1 .0)))
 
 returns-2 : tie.Need-returns-2
-returns-2 c = (handed-done _ _ _ _ _ _ _ _ _ (c .before .before .if1 .left) (c .before .before .before .before .before .write-into .ensures .0) (c .before .before .before .before .before .write-into .ensures .1) (ap (λ (k : ℕ). 4 * k) (counted (c .before))), refl)
+returns-2 c =
+    let write-into = c .before .before .before .before .before .write-into in
+    (handed-done _ _ _ _ _ _ _ _ _ (c .before .before .if1 .left) (write-into .ensures .0) (write-into .ensures .1) (ap (λ (k : ℕ). 4 * k) (counted (c .before))), refl)
 
 pub write-spec : {M : Type 1} → statement M
 write-spec =

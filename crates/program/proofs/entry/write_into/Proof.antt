@@ -33,13 +33,18 @@ writing-refusal-requires : tie.Need-writing-refusal-requires
 writing-refusal-requires c κs = call-within _ _ _ _ _ (accepted (c .before))
 
 returns : tie.Need-returns
-returns c = (c .before .writing-refusal .ensures ∙ sym (write-checked _ _ _ _ _ _ _ _ _ _ _ (accepted (c .before .before .before))), written-refused _ _ _ _ _ _ (pos-of-ne-zero (c .if1 .taken)))
+returns c =
+    let r = c .before .before .before in
+    (c .before .writing-refusal .ensures ∙ sym (write-checked _ _ _ _ _ _ _ _ _ _ _ (accepted r)), written-refused _ _ _ _ _ _ (pos-of-ne-zero (c .if1 .taken)))
 
 put-program-requires : tie.Need-put-program-requires
 put-program-requires c κs =
-    let within = call-within _ _ _ _ _ (accepted (c .before .before .before .before)) in
-    let ok = writing-accepted (c .before .before .before .before .plan .given .0 .0) (c .before .before .before .before .before .before .before .before .before .before .before .before .args .weights .now) (c .before .before .before .before .before .before .before .before .before .before .before .before .args .tables .now) (c .before .before .before .before .before .before .before .before .before .before .before .before .args .d .now) (c .before .before .before .before .before .before .before .before .before .before .before .before .args .beta .now) _ within (sym (c .before .before .writing-refusal .ensures) ∙ c .before .if1 .left) in
-    (within, (ok .0 .weights-length, ((ok .0 .products-length, ok .1), omega (arith, ok .3, layout-length (c .before .before .before .before .plan .given .0 .0) (c .before .before .before .before .before .before .before .before .before .before .before .before .args .weights .now) (c .before .before .before .before .before .before .before .before .before .before .before .before .args .d .now) (c .before .before .before .before .before .before .before .before .before .before .before .before .args .beta .now)))))
+    let plan = c .before .before .before .before .plan in
+    let args = c .before .before .before .before .before .before .before .before .before .before .before .before .args in
+    let r = c .before .before .before .before in
+    let within = call-within _ _ _ _ _ (accepted r) in
+    let ok = writing-accepted (plan .given .0 .0) (args .weights .now) (args .tables .now) (args .d .now) (args .beta .now) _ within (sym (c .before .before .writing-refusal .ensures) ∙ c .before .if1 .left) in
+    (within, (ok .0 .weights-length, ((ok .0 .products-length, ok .1), omega (arith, ok .3, layout-length (plan .given .0 .0) (args .weights .now) (args .d .now) (args .beta .now)))))
 
 returns-2 : tie.Need-returns-2
 returns-2 c =
@@ -50,10 +55,13 @@ same-length : tie.Need-same-length
 same-length c = search needs
 
 returns-3 : tie.Need-returns-3
-returns-3 c = (
-  sym (c .before .before .before .before .if1 .left) ∙ c .before .before .before .before .before .writing-refusal .ensures ∙ sym (write-checked _ _ _ _ _ _ _ _ _ _ _ (accepted (c .before .before .before .before .before .before .before))),
-  written-done _ _ _ _ _ _ (rw (call-plan _ _ _ _ _ (accepted (c .before .before .before .before .before .before .before))) (c .before .before .put-program .ensures)),
-)
+returns-3 c =
+    let if1 = c .before .before .before .before .if1 in
+    let writing-refusal = c .before .before .before .before .before .writing-refusal in
+    let r = c .before .before .before .before .before .before .before in (
+      sym (if1 .left) ∙ writing-refusal .ensures ∙ sym (write-checked _ _ _ _ _ _ _ _ _ _ _ (accepted r)),
+      written-done _ _ _ _ _ _ (rw (call-plan _ _ _ _ _ (accepted r)) (c .before .before .put-program .ensures)),
+    )
 
 pub write-into-spec : {M : Type 1} → statement M
 write-into-spec =

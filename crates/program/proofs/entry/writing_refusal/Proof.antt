@@ -39,19 +39,32 @@ all-below-requires : tie.Need-all-below-requires
 all-below-requires c κs = search needs
 
 returns-2 : tie.Need-returns-2
-returns-2 c = writing-five _ _ _ _ _ _ (sym (c .before .before .if1 .left) ∙ parts (c .before .before .before)) (sym (c .before .all-below .ensures) ∙ not-true _ (c .if2 .taken))
+returns-2 c =
+    let r = c .before .before .before in
+    writing-five _ _ _ _ _ _ (sym (c .before .before .if1 .left) ∙ parts r) (sym (c .before .all-below .ensures) ∙ not-true _ (c .if2 .taken))
 
 step-count-requires : tie.Need-step-count-requires
 step-count-requires c κs = search needs
 
 mul-if3 : tie.Need-mul-if3
-mul-if3 c = omega (arith, counted (c), step-limit (c .before .before .before .before .before .before .before .before .before .before .args .plan) (c .before .before .before .before .before .before .before .before .before .before .pre))
+mul-if3 c =
+    let args = c .before .before .before .before .before .before .before .before .before .before .args in
+    let pre = c .before .before .before .before .before .before .before .before .before .before .pre in
+    omega (arith, counted (c), step-limit (args .plan) (pre))
 
 returns-3 : tie.Need-returns-3
-returns-3 c = writing-ten _ _ _ _ _ _ (sym (c .before .before .before .before .if1 .left) ∙ parts (c .before .before .before .before .before)) (sym (c .before .before .before .all-below .ensures) ∙ not-false _ (c .before .before .if2 .left)) (rw (counted (c .before)) at (c .if3 .taken))
+returns-3 c =
+    let if1 = c .before .before .before .before .if1 in
+    let all-below = c .before .before .before .all-below in
+    let r = c .before .before .before .before .before in
+    writing-ten _ _ _ _ _ _ (sym (if1 .left) ∙ parts r) (sym (all-below .ensures) ∙ not-false _ (c .before .before .if2 .left)) (rw (counted (c .before)) at (c .if3 .taken))
 
 returns-4 : tie.Need-returns-4
-returns-4 c = writing-none _ _ _ _ _ _ (sym (c .before .before .before .before .if1 .left) ∙ parts (c .before .before .before .before .before)) (sym (c .before .before .before .all-below .ensures) ∙ not-false _ (c .before .before .if2 .left)) (rw (counted (c .before)) at (c .if3 .left))
+returns-4 c =
+    let if1 = c .before .before .before .before .if1 in
+    let all-below = c .before .before .before .all-below in
+    let r = c .before .before .before .before .before in
+    writing-none _ _ _ _ _ _ (sym (if1 .left) ∙ parts r) (sym (all-below .ensures) ∙ not-false _ (c .before .before .if2 .left)) (rw (counted (c .before)) at (c .if3 .left))
 
 pub writing-refusal-spec : {M : Type 1} → statement M
 writing-refusal-spec =

@@ -28,18 +28,28 @@ returns-3 c = rw (le-leb _ _ (c .before .before .if1 .left), le-leb _ _ (c .befo
 
 returns-4 : tie.Need-returns-4
 unfolding goodStep
-returns-4 c = rw (le-leb _ _ (c .before .before .before .before .if1 .left), le-leb _ _ (c .before .before .before .if2 .left), le-leb _ _ (c .before .before .if3 .left), eq-eqb _ _ (c .before .if4 .taken), ne-eqb _ _ (c .if5 .taken))
+returns-4 c =
+    let if1 = c .before .before .before .before .if1 in
+    let if2 = c .before .before .before .if2 in
+    rw (le-leb _ _ (if1 .left), le-leb _ _ (if2 .left), le-leb _ _ (c .before .before .if3 .left), eq-eqb _ _ (c .before .if4 .taken), ne-eqb _ _ (c .if5 .taken))
 
 returns-5 : tie.Need-returns-5
 unfolding goodStep
-returns-5 c = rw (le-leb _ _ (c .before .before .before .before .if1 .left), le-leb _ _ (c .before .before .before .if2 .left), le-leb _ _ (c .before .before .if3 .left), eq-eqb _ _ (c .before .if4 .taken), eq-eqb _ _ (c .if5 .left))
+returns-5 c =
+    let if1 = c .before .before .before .before .if1 in
+    let if2 = c .before .before .before .if2 in
+    rw (le-leb _ _ (if1 .left), le-leb _ _ (if2 .left), le-leb _ _ (c .before .before .if3 .left), eq-eqb _ _ (c .before .if4 .taken), eq-eqb _ _ (c .if5 .left))
 
 cast-result : tie.Need-cast-result
 cast-result c = search needs
 
 returns-6 : tie.Need-returns-6
 unfolding goodStep
-returns-6 c = rw (le-leb _ _ (c .before .before .before .before .before .if1 .left), le-leb _ _ (c .before .before .before .before .if2 .left), le-leb _ _ (c .before .before .before .if3 .left), ne-eqb _ _ (c .before .before .if4 .left), eq-eqb _ _ (c .before .if6 .taken))
+returns-6 c =
+    let if1 = c .before .before .before .before .before .if1 in
+    let if2 = c .before .before .before .before .if2 in
+    let if3 = c .before .before .before .if3 in
+    rw (le-leb _ _ (if1 .left), le-leb _ _ (if2 .left), le-leb _ _ (if3 .left), ne-eqb _ _ (c .before .before .if4 .left), eq-eqb _ _ (c .before .if6 .taken))
 
 cast-result-2 : tie.Need-cast-result-2
 cast-result-2 c = search needs
@@ -49,7 +59,11 @@ add-result c = search needs
 
 returns-7 : tie.Need-returns-7
 unfolding goodStep
-returns-7 c = rw (le-leb _ _ (c .before .before .before .before .before .if1 .left), le-leb _ _ (c .before .before .before .before .if2 .left), le-leb _ _ (c .before .before .before .if3 .left), ne-eqb _ _ (c .before .before .if4 .left), ne-eqb _ _ (c .before .if6 .left))
+returns-7 c =
+    let if1 = c .before .before .before .before .before .if1 in
+    let if2 = c .before .before .before .before .if2 in
+    let if3 = c .before .before .before .if3 in
+    rw (le-leb _ _ (if1 .left), le-leb _ _ (if2 .left), le-leb _ _ (if3 .left), ne-eqb _ _ (c .before .before .if4 .left), ne-eqb _ _ (c .before .if6 .left))
 
 pub good-step-spec : {M : Type 1} → statement M
 good-step-spec =

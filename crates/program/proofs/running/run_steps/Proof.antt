@@ -35,19 +35,29 @@ positive : (c : tie.In-loop Inv-loop μ-loop) → 0 < start c .args .plan .p
 positive c = omega (arith, prime-low (start c .pre .0))
 
 rem-inverse : tie.Need-rem-inverse Inv-loop μ-loop
-rem-inverse c = omega (arith, prime-low (c .before .before .before .pre .0))
+rem-inverse c =
+    let pre = c .before .before .before .pre in
+    omega (arith, prime-low (pre .0))
 
 inverse-requires : tie.Need-inverse-requires Inv-loop μ-loop
-inverse-requires c κs = (modulus (c .before .before .before .pre .0), mod-lt 4 (omega (arith, prime-low (c .before .before .before .pre .0))))
+inverse-requires c κs =
+    let pre = c .before .before .before .pre in
+    (modulus (pre .0), mod-lt 4 (omega (arith, prime-low (pre .0))))
 
 reciprocal-requires : tie.Need-reciprocal-requires Inv-loop μ-loop
-reciprocal-requires c κs = modulus (c .before .before .before .before .pre .0)
+reciprocal-requires c κs =
+    let pre = c .before .before .before .before .pre in
+    modulus (pre .0)
 
 new-requires : tie.Need-new-requires Inv-loop μ-loop
-new-requires c κs = omega (arith, c .before .before .before .before .before .pre .1 .1 .1 .0, c .before .before .before .before .before .pre .0 .variable-limit)
+new-requires c κs =
+    let pre = c .before .before .before .before .before .pre in
+    omega (arith, pre .1 .1 .1 .0, pre .0 .variable-limit)
 
 loop-holds : tie.Need-loop-holds Inv-loop μ-loop
-loop-holds c = running-none _ _ _ _ _ (c .new .ensures .0) (c .new .ensures .1) (c .before .before .before .before .before .before .pre .1 .1 .1 .1)
+loop-holds c =
+    let pre = c .before .before .before .before .before .before .pre in
+    running-none _ _ _ _ _ (c .new .ensures .0) (c .new .ensures .1) (pre .1 .1 .1 .1)
 
 mul-k : tie.Need-mul-k Inv-loop μ-loop
 mul-k c = omega arith
@@ -80,7 +90,9 @@ shared-slice-read-from : tie.Need-shared-slice-read-from Inv-loop μ-loop
 shared-slice-read-from c = omega arith
 
 cast-from : tie.Need-cast-from Inv-loop μ-loop
-cast-from c = omega (arith, from-inside (c .before .before .before))
+cast-from c =
+    let r = c .before .before .before in
+    omega (arith, from-inside r)
 
 add-by : tie.Need-add-by Inv-loop μ-loop
 add-by c = omega arith
@@ -95,42 +107,74 @@ add-i : tie.Need-add-i Inv-loop μ-loop
 add-i c = omega arith
 
 clear-requires : tie.Need-clear-requires Inv-loop μ-loop
-clear-requires c κs = (c .before .before .before .before .before .before .loop .inv .size, to-inside (c .before .before .before .before .before))
+clear-requires c κs =
+    let loop = c .before .before .before .before .before .before .loop in
+    let r = c .before .before .before .before .before in
+    (loop .inv .size, to-inside r)
 
 loop-less : tie.Need-loop-less Inv-loop μ-loop
 loop-less c = omega arith
 
 loop-again : tie.Need-loop-again Inv-loop μ-loop
-loop-again c = running-clear _ _ _ _ (c .before .before .before .before .before .before .before .loop .inv) (c .before .before .before .before .before .before .loop-test .taken) (to-inside (c .before .before .before .before .before .before)) _ (c .clear .ensures) (positive (c .before .before .before .before .before .before)) (c .before .if1 .taken)
+loop-again c =
+    let loop = c .before .before .before .before .before .before .before .loop in
+    let r = c .before .before .before .before .before .before in
+    running-clear _ _ _ _ (loop .inv) (c .before .before .before .before .before .before .loop-test .taken) (to-inside r) _ (c .clear .ensures) (positive r) (c .before .if1 .taken)
 
 cast-add : tie.Need-cast-add Inv-loop μ-loop
-cast-add c = omega (arith, facts (c .before .before .before .before .before .before) .weight (c .if2 .taken), prime-high (c .before .before .before .before .before .before .before .before .before .before .before .before .before .before .pre .0))
+cast-add c =
+    let pre = c .before .before .before .before .before .before .before .before .before .before .before .before .before .before .pre in
+    let r = c .before .before .before .before .before .before in
+    omega (arith, facts r .weight (c .if2 .taken), prime-high (pre .0))
 
 add-requires : tie.Need-add-requires Inv-loop μ-loop
-add-requires c κs = ((c .before .before .before .before .before .before .before .loop .inv .size, to-inside (c .before .before .before .before .before .before), from-inside (c .before .before .before .before .before .before)), (modulus (c .before .before .before .before .before .before .before .before .before .before .before .before .before .before .pre .0), (c .before .before .before .before .before .before .before .before .before .reciprocal .ensures, facts (c .before .before .before .before .before .before) .weight (c .if2 .taken), c .before .before .before .before .before .before .before .loop .inv .residues)))
+add-requires c κs =
+    let loop = c .before .before .before .before .before .before .before .loop in
+    let pre = c .before .before .before .before .before .before .before .before .before .before .before .before .before .before .pre in
+    let reciprocal = c .before .before .before .before .before .before .before .before .before .reciprocal in
+    let r = c .before .before .before .before .before .before in
+    ((loop .inv .size, to-inside r, from-inside r), (modulus (pre .0), (reciprocal .ensures, facts r .weight (c .if2 .taken), loop .inv .residues)))
 
 loop-less-2 : tie.Need-loop-less-2 Inv-loop μ-loop
 loop-less-2 c = omega arith
 
 loop-again-2 : tie.Need-loop-again-2 Inv-loop μ-loop
-loop-again-2 c = running-add _ _ _ _ (c .before .before .before .before .before .before .before .before .loop .inv) (c .before .before .before .before .before .before .before .loop-test .taken) (to-inside (c .before .before .before .before .before .before .before)) _ (c .add .ensures) (positive (c .before .before .before .before .before .before .before)) (c .before .if2 .taken)
+loop-again-2 c =
+    let loop = c .before .before .before .before .before .before .before .before .loop in
+    let r = c .before .before .before .before .before .before .before in
+    running-add _ _ _ _ (loop .inv) (c .before .before .before .before .before .before .before .loop-test .taken) (to-inside r) _ (c .add .ensures) (positive r) (c .before .if2 .taken)
 
 cast-boot : tie.Need-cast-boot Inv-loop μ-loop
-cast-boot c = omega (arith, facts (c .before .before .before .before .before .before) .table (c .before .if1 .left) (c .if2 .left) .1, c .before .before .before .before .before .before .before .before .before .before .before .before .before .before .pre .0 .variable-limit)
+cast-boot c =
+    let pre = c .before .before .before .before .before .before .before .before .before .before .before .before .before .before .pre in
+    let r = c .before .before .before .before .before .before in
+    omega (arith, facts r .table (c .before .if1 .left) (c .if2 .left) .1, pre .0 .variable-limit)
 
 boot-requires : tie.Need-boot-requires Inv-loop μ-loop
-boot-requires c κs = ((c .before .before .before .before .before .before .before .loop .inv .size, to-inside (c .before .before .before .before .before .before), from-inside (c .before .before .before .before .before .before)), (c .before .before .before .before .before .before .before .before .before .before .before .before .before .before .pre .0, (c .before .before .before .before .before .before .before .before .before .before .before .before .before .before .pre .1 .0 .0, (c .before .before .before .before .before .before .before .before .before .before .inverse .ensures ∙ small-inverse (c .before .before .before .before .before .before .before .before .before .before .before .before .before .before .args .plan .p), c .before .before .before .before .before .before .before .loop .inv .residues))))
+boot-requires c κs =
+    let loop = c .before .before .before .before .before .before .before .loop in
+    let pre = c .before .before .before .before .before .before .before .before .before .before .before .before .before .before .pre in
+    let inverse = c .before .before .before .before .before .before .before .before .before .before .inverse in
+    let args = c .before .before .before .before .before .before .before .before .before .before .before .before .before .before .args in
+    let r = c .before .before .before .before .before .before in
+    ((loop .inv .size, to-inside r, from-inside r), (pre .0, (pre .1 .0 .0, (inverse .ensures ∙ small-inverse (args .plan .p), loop .inv .residues))))
 
 add-bootstraps : tie.Need-add-bootstraps Inv-loop μ-loop
-add-bootstraps c = omega (arith, running-count _ _ _ _ (c .before .before .before .before .before .before .before .before .loop .inv))
+add-bootstraps c =
+    let loop = c .before .before .before .before .before .before .before .before .loop in
+    omega (arith, running-count _ _ _ _ (loop .inv))
 
 loop-less-3 : tie.Need-loop-less-3 Inv-loop μ-loop
 loop-less-3 c = omega arith
 
 loop-again-3 : tie.Need-loop-again-3 Inv-loop μ-loop
 loop-again-3 c =
-    running-boot _ _ _ _ (c .before .before .before .before .before .before .before .before .loop .inv) (c .before .before .before .before .before .before .before .loop-test .taken) (to-inside (c .before .before .before .before .before .before .before)) _ (c .boot .ensures)
-    (table-small (c .before .before .before .before .before .before .before .before .before .before .before .before .before .before .before .args .plan) (c .before .before .before .before .before .before .before .before .before .before .before .before .before .before .before .args .tables .now) _ _ (positive (c .before .before .before .before .before .before .before)) (c .before .before .before .before .before .before .before .before .before .before .before .before .before .before .before .pre .1 .0 .1)) (facts (c .before .before .before .before .before .before .before) .table (c .before .before .if1 .left) (c .before .if2 .left) .0)
+    let loop = c .before .before .before .before .before .before .before .before .loop in
+    let args = c .before .before .before .before .before .before .before .before .before .before .before .before .before .before .before .args in
+    let pre = c .before .before .before .before .before .before .before .before .before .before .before .before .before .before .before .pre in
+    let r = c .before .before .before .before .before .before .before in
+    running-boot _ _ _ _ (loop .inv) (c .before .before .before .before .before .before .before .loop-test .taken) (to-inside r) _ (c .boot .ensures)
+    (table-small (args .plan) (args .tables .now) _ _ (positive r) (pre .1 .0 .1)) (facts r .table (c .before .before .if1 .left) (c .before .if2 .left) .0)
 
 add-y : tie.Need-add-y Inv-loop μ-loop
 add-y c = omega arith
@@ -139,11 +183,14 @@ add-y-2 : tie.Need-add-y-2 Inv-loop μ-loop
 add-y-2 c = omega arith
 
 element-copy-out-t17 : tie.Need-element-copy-out-t17 Inv-loop μ-loop
-element-copy-out-t17 c = omega (arith, c .before .before .loop .inv .size, c .before .before .before .before .before .before .before .before .before .pre .0 .variable-limit)
+element-copy-out-t17 c =
+    let pre = c .before .before .before .before .before .before .before .before .before .pre in
+    omega (arith, c .before .before .loop .inv .size, pre .0 .variable-limit)
 
 returns : tie.Need-returns Inv-loop μ-loop
 returns c =
-    let r = running-all _ _ _ _ (c .before .before .before .loop .inv) (c .before .before .loop-test .left) in
+    let loop = c .before .before .before .loop in
+    let r = running-all _ _ _ _ (loop .inv) (c .before .before .loop-test .left) in
     ap₂ Done (r .0) (r .1)
 
 pub run-steps-spec : {M : Type 1} → statement M

@@ -14,35 +14,59 @@ cast-place : tie.Need-cast-place
 cast-place c = search needs
 
 mul-place : tie.Need-mul-place
-mul-place c = omega (arith, table-room (c .before .before .before .args .plan) (c .before .before .before .args .tables .now) (c .before .before .before .args .k) (c .before .before .before .pre .1 .0) (c .if1 .taken))
+mul-place c =
+    let args = c .before .before .before .args in
+    let pre = c .before .before .before .pre in
+    omega (arith, table-room (args .plan) (args .tables .now) (args .k) (pre .1 .0) (c .if1 .taken))
 
 add-place : tie.Need-add-place
-add-place c = omega (arith, table-room (c .before .before .before .args .plan) (c .before .before .before .args .tables .now) (c .before .before .before .args .k) (c .before .before .before .pre .1 .0) (c .if1 .taken))
+add-place c =
+    let args = c .before .before .before .args in
+    let pre = c .before .before .before .pre in
+    omega (arith, table-room (args .plan) (args .tables .now) (args .k) (pre .1 .0) (c .if1 .taken))
 
 shared-slice-read-result : tie.Need-shared-slice-read-result
-shared-slice-read-result c = omega (arith, table-room (c .before .before .before .before .args .plan) (c .before .before .before .before .args .tables .now) (c .before .before .before .before .args .k) (c .before .before .before .before .pre .1 .0) (c .before .if1 .taken))
+shared-slice-read-result c =
+    let args = c .before .before .before .before .args in
+    let pre = c .before .before .before .before .pre in
+    omega (arith, table-room (args .plan) (args .tables .now) (args .k) (pre .1 .0) (c .before .if1 .taken))
 
 returns : tie.Need-returns
-returns c = sym (table-link (c .before .before .before .before .args .plan) (c .before .before .before .before .args .tables .now) (c .before .before .before .before .args .k) (c .before .before .before .before .args .z) (c .before .if1 .taken))
+returns c =
+    let args = c .before .before .before .before .args in
+    sym (table-link (args .plan) (args .tables .now) (args .k) (args .z) (c .before .if1 .taken))
 
 square-at-requires : tie.Need-square-at-requires
-square-at-requires c κs = (modulus (c .before .before .before .pre .0), c .before .before .before .pre .1 .1)
+square-at-requires c κs =
+    let pre = c .before .before .before .pre in
+    (modulus (pre .0), pre .1 .1)
 
 returns-2 : tie.Need-returns-2
-returns-2 c = c .before .before .square-at .ensures ∙ sym (table-square (c .before .before .before .before .before .before .args .plan) (c .before .before .before .before .before .before .args .tables .now) (c .before .before .before .before .before .before .args .k) (c .before .before .before .before .before .before .args .z) (c .if2 .taken))
+returns-2 c =
+    let args = c .before .before .before .before .before .before .args in
+    c .before .before .square-at .ensures ∙ sym (table-square (args .plan) (args .tables .now) (args .k) (args .z) (c .if2 .taken))
 
 returns-3 : tie.Need-returns-3
 returns-3 c =
-    minus-zero (c .before .before .before .before .before .before .before .args .plan .p) (c .before .before .before .before .before .before .before .args .z) (c .before .before .before .square-at .result) (c .before .before .before .square-at .ensures) (c .if3 .taken)
-    ∙ sym (table-minus (c .before .before .before .before .before .before .before .args .plan) (c .before .before .before .before .before .before .before .args .tables .now) (c .before .before .before .before .before .before .before .args .k) (c .before .before .before .before .before .before .before .args .z) (omega arith))
+    let args = c .before .before .before .before .before .before .before .args in
+    let square-at = c .before .before .before .square-at in
+    minus-zero (args .plan .p) (args .z) (square-at .result) (square-at .ensures) (c .if3 .taken)
+    ∙ sym (table-minus (args .plan) (args .tables .now) (args .k) (args .z) (omega arith))
 
 sub-result : tie.Need-sub-result
-sub-result c = omega (arith, square-small (c .before .before .before .before .before .before .before .args .plan .p) (c .before .before .before .before .before .before .before .args .z) (omega (arith, prime-low (c .before .before .before .before .before .before .before .pre .0))), c .before .before .before .square-at .ensures)
+sub-result c =
+    let args = c .before .before .before .before .before .before .before .args in
+    let pre = c .before .before .before .before .before .before .before .pre in
+    let square-at = c .before .before .before .square-at in
+    omega (arith, square-small (args .plan .p) (args .z) (omega (arith, prime-low (pre .0))), square-at .ensures)
 
 returns-4 : tie.Need-returns-4
 returns-4 c =
-    minus-other (c .before .before .before .before .before .before .before .args .plan .p) (c .before .before .before .before .before .before .before .args .z) (c .before .before .before .square-at .result) (omega (arith, prime-low (c .before .before .before .before .before .before .before .pre .0))) (c .before .before .before .square-at .ensures) (c .if3 .left)
-    ∙ sym (table-minus (c .before .before .before .before .before .before .before .args .plan) (c .before .before .before .before .before .before .before .args .tables .now) (c .before .before .before .before .before .before .before .args .k) (c .before .before .before .before .before .before .before .args .z) (omega arith))
+    let args = c .before .before .before .before .before .before .before .args in
+    let square-at = c .before .before .before .square-at in
+    let pre = c .before .before .before .before .before .before .before .pre in
+    minus-other (args .plan .p) (args .z) (square-at .result) (omega (arith, prime-low (pre .0))) (square-at .ensures) (c .if3 .left)
+    ∙ sym (table-minus (args .plan) (args .tables .now) (args .k) (args .z) (omega arith))
 
 pub table-at-spec : {M : Type 1} → statement M
 table-at-spec =

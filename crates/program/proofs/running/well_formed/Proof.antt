@@ -59,10 +59,15 @@ shared-slice-read-good-step-4 : tie.Need-shared-slice-read-good-step-4 Inv-loop 
 shared-slice-read-good-step-4 c = omega arith
 
 good-step-requires : tie.Need-good-step-requires Inv-loop μ-loop
-good-step-requires c κs = c .before .before .before .before .before .before .before .before .pre
+good-step-requires c κs =
+    let pre = c .before .before .before .before .before .before .before .before .pre in
+    pre
 
 returns-2 : tie.Need-returns-2 Inv-loop μ-loop
-returns-2 c = sym (bad (c .before .before .before .before .before .before .before .before .before .before .args .plan) (c .before .before .before .before .before .before .before .before .before .before .args .steps .now) (c .before .before .before .before .before .before .before .loop .i) (c .before .before .before .before .before .before .loop-test .taken) (sym (c .before .good-step .ensures) ∙ not-true _ (c .if2 .taken)))
+returns-2 c =
+    let args = c .before .before .before .before .before .before .before .before .before .before .args in
+    let loop = c .before .before .before .before .before .before .before .loop in
+    sym (bad (args .plan) (args .steps .now) (loop .i) (c .before .before .before .before .before .before .loop-test .taken) (sym (c .before .good-step .ensures) ∙ not-true _ (c .if2 .taken)))
 
 add-i : tie.Need-add-i Inv-loop μ-loop
 add-i c = omega arith
@@ -71,10 +76,15 @@ loop-less : tie.Need-loop-less Inv-loop μ-loop
 loop-less c = omega arith
 
 loop-again : tie.Need-loop-again Inv-loop μ-loop
-loop-again c = (omega arith, good-next (c .before .before .before .before .before .before .before .before .before .before .args .plan) (c .before .before .before .before .before .before .before .before .before .before .args .steps .now) (c .before .before .before .before .before .before .before .loop .i) (c .before .before .before .before .before .before .before .loop .inv .1) (sym (c .before .good-step .ensures) ∙ not-false _ (c .if2 .left)))
+loop-again c =
+    let args = c .before .before .before .before .before .before .before .before .before .before .args in
+    let loop = c .before .before .before .before .before .before .before .loop in
+    (omega arith, good-next (args .plan) (args .steps .now) (loop .i) (loop .inv .1) (sym (c .before .good-step .ensures) ∙ not-false _ (c .if2 .left)))
 
 returns-3 : tie.Need-returns-3 Inv-loop μ-loop
-returns-3 c = sym (good (c .before .before .before .before .args .plan) (c .before .before .before .before .args .steps .now) (c .before .loop .i) (c .before .before .if1 .left) (c .before .loop .inv .0) (c .loop-test .left) (c .before .loop .inv .1))
+returns-3 c =
+    let args = c .before .before .before .before .args in
+    sym (good (args .plan) (args .steps .now) (c .before .loop .i) (c .before .before .if1 .left) (c .before .loop .inv .0) (c .loop-test .left) (c .before .loop .inv .1))
 
 pub well-formed-spec : {M : Type 1} → statement M
 well-formed-spec =

@@ -26,10 +26,17 @@ shared-slice-read-put-step : tie.Need-shared-slice-read-put-step Inv-loop μ-loo
 shared-slice-read-put-step c = omega arith
 
 cast-put-step-2 : tie.Need-cast-put-step-2 Inv-loop μ-loop
-cast-put-step-2 c = omega (arith, c .before .before .before .before .shared-slice-known .given (c .before .before .before .loop .j))
+cast-put-step-2 c =
+    let shared-slice-known = c .before .before .before .before .shared-slice-known in
+    let loop = c .before .before .before .loop in
+    omega (arith, shared-slice-known .given (loop .j))
 
 put-step-requires : tie.Need-put-step-requires Inv-loop μ-loop
-put-step-requires c κs = adds-room _ (at (c .before .before .before .before .before .before .args .weights .now)) (c .before .before .before .loop .j) (length (c .before .before .before .before .before .before .args .weights .now)) (c .before .before .loop-test .taken) (c .before .before .before .before .before .before .pre .1) (c .before .before .before .loop .inv .1)
+put-step-requires c κs =
+    let args = c .before .before .before .before .before .before .args in
+    let loop = c .before .before .before .loop in
+    let pre = c .before .before .before .before .before .before .pre in
+    adds-room _ (at (args .weights .now)) (loop .j) (length (args .weights .now)) (c .before .before .loop-test .taken) (pre .1) (loop .inv .1)
 
 add-j : tie.Need-add-j Inv-loop μ-loop
 add-j c = omega arith
@@ -38,13 +45,22 @@ loop-less : tie.Need-loop-less Inv-loop μ-loop
 loop-less c = omega arith
 
 loop-again : tie.Need-loop-again Inv-loop μ-loop
-loop-again c = (omega arith, adds-next _ (at (c .before .before .before .before .before .before .before .before .before .args .weights .now)) (c .before .before .before .before .before .before .loop .j) (length (c .before .before .before .before .before .before .before .before .before .args .weights .now)) (c .before .before .before .before .before .loop-test .taken) (c .before .before .before .before .before .before .before .before .before .pre .1) (c .before .before .before .before .before .before .loop .inv .1) (c .before .before .put-step .ensures))
+loop-again c =
+    let args = c .before .before .before .before .before .before .before .before .before .args in
+    let loop = c .before .before .before .before .before .before .loop in
+    let pre = c .before .before .before .before .before .before .before .before .before .pre in
+    (omega arith, adds-next _ (at (args .weights .now)) (loop .j) (length (args .weights .now)) (c .before .before .before .before .before .loop-test .taken) (pre .1) (loop .inv .1) (c .before .before .put-step .ensures))
 
 same-length : tie.Need-same-length Inv-loop μ-loop
-same-length c = wrote-length _ (c .before .before .before .before .pre .1) (adds-all _ (at (c .before .before .before .before .args .weights .now)) (c .before .loop .j) (length (c .before .before .before .before .args .weights .now)) (c .before .loop .inv .0) (c .loop-test .left) (c .before .loop .inv .1))
+same-length c =
+    let pre = c .before .before .before .before .pre in
+    let args = c .before .before .before .before .args in
+    wrote-length _ (pre .1) (adds-all _ (at (args .weights .now)) (c .before .loop .j) (length (args .weights .now)) (c .before .loop .inv .0) (c .loop-test .left) (c .before .loop .inv .1))
 
 returns : tie.Need-returns Inv-loop μ-loop
-returns c = adds-all _ (at (c .before .before .before .before .args .weights .now)) (c .before .loop .j) (length (c .before .before .before .before .args .weights .now)) (c .before .loop .inv .0) (c .loop-test .left) (c .before .loop .inv .1)
+returns c =
+    let args = c .before .before .before .before .args in
+    adds-all _ (at (args .weights .now)) (c .before .loop .j) (length (args .weights .now)) (c .before .loop .inv .0) (c .loop-test .left) (c .before .loop .inv .1)
 
 pub put-adds-spec : {M : Type 1} → statement M
 put-adds-spec =

@@ -32,7 +32,9 @@ room : (c : tie.Start) → Room (c .args .out .now) (c .args .begin) (total c ++
 room c = subst (Room (c .args .out .now) (c .args .begin)) (sym (split c)) (c .pre .1 .1 .1)
 
 add-end : tie.Need-add-end
-add-end c = omega (arith, fits (c .before .before .before))
+add-end c =
+    let r = c .before .before .before in
+    omega (arith, fits r)
 
 cast-to : tie.Need-cast-to
 cast-to c = search needs
@@ -44,11 +46,14 @@ part-put-sum-start : tie.Need-part-put-sum-start
 part-put-sum-start c = search needs
 
 part-put-sum-end : tie.Need-part-put-sum-end
-part-put-sum-end c = fits (c .before .before .before .before)
+part-put-sum-end c =
+    let r = c .before .before .before .before in
+    fits r
 
 put-sum-requires : tie.Need-put-sum-requires
 put-sum-requires c κs =
-    let s = (c .before .before .before .before .before) in
+    let r = c .before .before .before .before .before in
+    let s = r in
     let e = cut-length (s .args .weights .now) (s .args .start) (s .args .plan .n + s .args .k) (fits s) in
     (omega (arith, e, s .pre .0 .variable-limit, s .pre .1 .1 .0 .1), room-front (s .args .out .now) (s .args .begin) (total s) (last s) (room s))
 
@@ -57,17 +62,21 @@ cast-put-step c = search needs
 
 put-step-requires : tie.Need-put-step-requires
 put-step-requires c κs =
-    let s = (c .before .before .before .before .before .before .before .before .before) in
-    wrote-room (total s) (last s) (room s) (c .before .before .before .put-sum .ensures)
+    let put-sum = c .before .before .before .put-sum in
+    let r = c .before .before .before .before .before .before .before .before .before in
+    let s = r in
+    wrote-room (total s) (last s) (room s) (put-sum .ensures)
 
 same-length : tie.Need-same-length
 same-length c = search needs
 
 returns : tie.Need-returns
 returns c =
-    let s = (c .before .before .before .before .before .before .before .before .before .before .before .before) in
+    let put-sum = c .before .before .before .before .before .before .put-sum in
+    let r = c .before .before .before .before .before .before .before .before .before .before .before .before in
+    let s = r in
     subst (λ (xs : List ℕ). Wrote (s .args .out .now) (s .args .begin) xs (c .before .before .put-step .result) (c .before .before .put-step .last .0)) (split s)
-    (wrote-then (total s) (last s) (room s) (c .before .before .before .before .before .before .put-sum .ensures) (c .before .before .put-step .ensures))
+    (wrote-then (total s) (last s) (room s) (put-sum .ensures) (c .before .before .put-step .ensures))
 
 pub put-link-spec : {M : Type 1} → statement M
 put-link-spec =

@@ -20,10 +20,14 @@ same-length c = search needs
 
 returns : tie.Need-returns
 returns c =
-    let to = c .before .before .before .before .before .before .before .before .before .before .before .before .before .args .to in
-    let rest = add to (c .before .before .before .before .before .before .before .before .before .before .before .before .before .args .u) 1 ++ add to (c .before .before .before .before .before .before .before .before .before .before .before .before .before .args .v) (c .before .before .before .before .before .before .before .before .before .before .before .before .before .args .by) in
-    wrote-then (clear to) rest (c .before .before .before .before .before .before .before .before .before .before .before .before .before .pre) (c .before .before .before .before .before .before .before .before .before .before .put-step .ensures)
-    (wrote-then (add to (c .before .before .before .before .before .before .before .before .before .before .before .before .before .args .u) 1) (add to (c .before .before .before .before .before .before .before .before .before .before .before .before .before .args .v) (c .before .before .before .before .before .before .before .before .before .before .before .before .before .args .by)) (wrote-room (clear to) rest (c .before .before .before .before .before .before .before .before .before .before .before .before .before .pre) (c .before .before .before .before .before .before .before .before .before .before .put-step .ensures)) (c .before .before .before .before .before .before .put-step2 .ensures) (c .before .before .put-step3 .ensures))
+    let args = c .before .before .before .before .before .before .before .before .before .before .before .before .before .args in
+    let pre = c .before .before .before .before .before .before .before .before .before .before .before .before .before .pre in
+    let put-step = c .before .before .before .before .before .before .before .before .before .before .put-step in
+    let put-step2 = c .before .before .before .before .before .before .put-step2 in
+    let to = args .to in
+    let rest = add to (args .u) 1 ++ add to (args .v) (args .by) in
+    wrote-then (clear to) rest (pre) (put-step .ensures)
+    (wrote-then (add to (args .u) 1) (add to (args .v) (args .by)) (wrote-room (clear to) rest (pre) (put-step .ensures)) (put-step2 .ensures) (c .before .before .put-step3 .ensures))
 
 pub put-pair-spec : {M : Type 1} → statement M
 put-pair-spec =

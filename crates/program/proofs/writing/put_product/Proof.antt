@@ -49,10 +49,14 @@ room : (c : tie.After-variables) → Room (start c .args .out .now) (start c .ar
 room c = subst (Room (start c .args .out .now) (start c .args .begin)) (sym (split c)) (start c .pre .1 .1 .1)
 
 mul-start : tie.Need-mul-start
-mul-start c = omega (arith, within-d (c), c .before .before .before .before .pre .0 .column-limit)
+mul-start c =
+    let pre = c .before .before .before .before .pre in
+    omega (arith, within-d (c), pre .0 .column-limit)
 
 add-end : tie.Need-add-end
-add-end c = omega (arith, within-d (c), c .before .before .before .before .pre .0 .column-limit)
+add-end c =
+    let pre = c .before .before .before .before .pre in
+    omega (arith, within-d (c), pre .0 .column-limit)
 
 cast-u : tie.Need-cast-u
 cast-u c = search needs
@@ -73,11 +77,14 @@ part-put-sum-start : tie.Need-part-put-sum-start
 part-put-sum-start c = search needs
 
 part-put-sum-end : tie.Need-part-put-sum-end
-part-put-sum-end c = fits-beta (c .before .before .before)
+part-put-sum-end c =
+    let r = c .before .before .before in
+    fits-beta r
 
 put-sum-requires : tie.Need-put-sum-requires
 put-sum-requires c κs =
-    let s = (c .before .before .before .before) in
+    let r = c .before .before .before .before in
+    let s = r in
     (omega (arith, cut-length (start s .args .beta .now) (start s .args .i * s .variables .result) (s .variables .result) (fits-beta s), s .variables .ensures, start s .pre .0 .variable-limit), room-front (start s .args .out .now) (start s .args .begin) (left s) (right s ++ last s) (room s))
 
 add-put-sum : tie.Need-add-put-sum
@@ -90,28 +97,38 @@ part-put-sum-start-2 : tie.Need-part-put-sum-start-2
 part-put-sum-start-2 c = search needs
 
 part-put-sum-end-2 : tie.Need-part-put-sum-end-2
-part-put-sum-end-2 c = fits-d (c .before .before .before .before .before .before .before .before)
+part-put-sum-end-2 c =
+    let r = c .before .before .before .before .before .before .before .before in
+    fits-d r
 
 put-sum-requires-2 : tie.Need-put-sum-requires-2
 put-sum-requires-2 c κs =
-    let s = (c .before .before .before .before .before .before .before .before .before) in
-    let rest = wrote-room (left s) (right s ++ last s) (room s) (c .before .before .before .before .put-sum .ensures) in
-    (omega (arith, cut-length (start s .args .d .now) (start s .args .i * s .variables .result) (s .variables .result) (fits-d s), s .variables .ensures, start s .pre .0 .variable-limit), room-front (c .before .before .before .before .put-sum .last .0) (c .before .before .before .before .put-sum .result) (right s) (last s) rest)
+    let put-sum = c .before .before .before .before .put-sum in
+    let r = c .before .before .before .before .before .before .before .before .before in
+    let s = r in
+    let rest = wrote-room (left s) (right s ++ last s) (room s) (put-sum .ensures) in
+    (omega (arith, cut-length (start s .args .d .now) (start s .args .i * s .variables .result) (s .variables .result) (fits-d s), s .variables .ensures, start s .pre .0 .variable-limit), room-front (put-sum .last .0) (put-sum .result) (right s) (last s) rest)
 
 put-squares-requires : tie.Need-put-squares-requires
 put-squares-requires c κs =
-    let s = (c .before .before .before .before .before .before .before .before .before .before .before .before .before) in
-    let rest = wrote-room (left s) (right s ++ last s) (room s) (c .before .before .before .before .before .before .before .before .put-sum .ensures) in
-    ((omega (arith, s .variables .ensures, start s .pre .0 .variable-limit), omega (arith, start s .pre .0 .variable-limit)), wrote-room (right s) (last s) rest (c .before .before .before .put-sum2 .ensures))
+    let put-sum = c .before .before .before .before .before .before .before .before .put-sum in
+    let put-sum2 = c .before .before .before .put-sum2 in
+    let r = c .before .before .before .before .before .before .before .before .before .before .before .before .before in
+    let s = r in
+    let rest = wrote-room (left s) (right s ++ last s) (room s) (put-sum .ensures) in
+    ((omega (arith, s .variables .ensures, start s .pre .0 .variable-limit), omega (arith, start s .pre .0 .variable-limit)), wrote-room (right s) (last s) rest (put-sum2 .ensures))
 
 same-length : tie.Need-same-length
 same-length c = search needs
 
 returns : tie.Need-returns
 returns c =
-    let s = (c .before .before .before .before .before .before .before .before .before .before .before .before .before .before .before .before) in
+    let put-sum = c .before .before .before .before .before .before .before .before .before .before .before .put-sum in
+    let put-sum2 = c .before .before .before .before .before .before .put-sum2 in
+    let r = c .before .before .before .before .before .before .before .before .before .before .before .before .before .before .before .before in
+    let s = r in
     subst (λ (xs : List ℕ). Wrote (start s .args .out .now) (start s .args .begin) xs (c .before .before .put-squares .result) (c .before .before .put-squares .last .0)) (split s)
-    (wrote-3 (left s) (right s) (last s) (room s) (c .before .before .before .before .before .before .before .before .before .before .before .put-sum .ensures) (c .before .before .before .before .before .before .put-sum2 .ensures) (c .before .before .put-squares .ensures))
+    (wrote-3 (left s) (right s) (last s) (room s) (put-sum .ensures) (put-sum2 .ensures) (c .before .before .put-squares .ensures))
 
 pub put-product-spec : {M : Type 1} → statement M
 put-product-spec =

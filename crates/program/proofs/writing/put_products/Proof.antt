@@ -18,7 +18,11 @@ loop-holds : tie.Need-loop-holds Inv-loop μ-loop
 loop-holds c = (omega arith, none-joined _ _ _)
 
 put-product-requires : tie.Need-put-product-requires Inv-loop μ-loop
-put-product-requires c κs = (c .before .before .before .before .before .before .before .pre .0, (c .before .before .before .before .before .before .before .pre .1 .0, (c .before .if1 .taken, next-room (productSteps (c .before .before .before .before .before .before .before .args .plan) (c .before .before .before .before .before .before .before .args .d .now) (c .before .before .before .before .before .before .before .args .beta .now)) (c .before .before .before .loop .i) (c .before .before .before .before .before .before .before .args .plan .t) (c .before .if1 .taken) (c .before .before .before .before .before .before .before .pre .1 .1) (c .before .before .before .loop .inv .1))))
+put-product-requires c κs =
+    let pre = c .before .before .before .before .before .before .before .pre in
+    let args = c .before .before .before .before .before .before .before .args in
+    let loop = c .before .before .before .loop in
+    (pre .0, (pre .1 .0, (c .before .if1 .taken, next-room (productSteps (args .plan) (args .d .now) (args .beta .now)) (loop .i) (args .plan .t) (c .before .if1 .taken) (pre .1 .1) (loop .inv .1))))
 
 add-i : tie.Need-add-i Inv-loop μ-loop
 add-i c = omega arith
@@ -27,13 +31,23 @@ loop-less : tie.Need-loop-less Inv-loop μ-loop
 loop-less c = omega arith
 
 loop-again : tie.Need-loop-again Inv-loop μ-loop
-loop-again c = (omega arith, wrote-next (productSteps (c .before .before .before .before .before .before .before .before .before .before .args .plan) (c .before .before .before .before .before .before .before .before .before .before .args .d .now) (c .before .before .before .before .before .before .before .before .before .before .args .beta .now)) (c .before .before .before .before .before .before .loop .i) (c .before .before .before .before .before .before .before .before .before .before .args .plan .t) (c .before .before .before .before .if1 .taken) (c .before .before .before .before .before .before .before .before .before .before .pre .1 .1) (c .before .before .before .before .before .before .loop .inv .1) (c .before .before .put-product .ensures))
+loop-again c =
+    let args = c .before .before .before .before .before .before .before .before .before .before .args in
+    let loop = c .before .before .before .before .before .before .loop in
+    let if1 = c .before .before .before .before .if1 in
+    let pre = c .before .before .before .before .before .before .before .before .before .before .pre in
+    (omega arith, wrote-next (productSteps (args .plan) (args .d .now) (args .beta .now)) (loop .i) (args .plan .t) (if1 .taken) (pre .1 .1) (loop .inv .1) (c .before .before .put-product .ensures))
 
 same-length : tie.Need-same-length Inv-loop μ-loop
-same-length c = wrote-length _ (c .before .before .before .before .before .before .pre .1 .1) (joined-all (productSteps (c .before .before .before .before .before .before .args .plan) (c .before .before .before .before .before .before .args .d .now) (c .before .before .before .before .before .before .args .beta .now)) (c .before .before .loop .i) (c .before .before .before .before .before .before .args .plan .t) (c .before .before .loop .inv .0) (c .if1 .left) (c .before .before .loop .inv .1))
+same-length c =
+    let pre = c .before .before .before .before .before .before .pre in
+    let args = c .before .before .before .before .before .before .args in
+    wrote-length _ (pre .1 .1) (joined-all (productSteps (args .plan) (args .d .now) (args .beta .now)) (c .before .before .loop .i) (args .plan .t) (c .before .before .loop .inv .0) (c .if1 .left) (c .before .before .loop .inv .1))
 
 returns : tie.Need-returns Inv-loop μ-loop
-returns c = joined-all (productSteps (c .before .before .before .before .before .before .args .plan) (c .before .before .before .before .before .before .args .d .now) (c .before .before .before .before .before .before .args .beta .now)) (c .before .before .loop .i) (c .before .before .before .before .before .before .args .plan .t) (c .before .before .loop .inv .0) (c .if1 .left) (c .before .before .loop .inv .1)
+returns c =
+    let args = c .before .before .before .before .before .before .args in
+    joined-all (productSteps (args .plan) (args .d .now) (args .beta .now)) (c .before .before .loop .i) (args .plan .t) (c .before .before .loop .inv .0) (c .if1 .left) (c .before .before .loop .inv .1)
 
 pub put-products-spec : {M : Type 1} → statement M
 put-products-spec =

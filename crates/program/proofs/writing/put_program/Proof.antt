@@ -60,10 +60,14 @@ room : (c : tie.After-variables) → Room (start c .args .out .now) 0 (links c +
 room c = subst (Room (start c .args .out .now) 0) (sym (split c)) (start c .pre .1 .1 .1)
 
 mul-start : tie.Need-mul-start
-mul-start c = omega (arith, ends (c .before), c .before .before .before .before .before .before .pre .0 .column-limit)
+mul-start c =
+    let pre = c .before .before .before .before .before .before .pre in
+    omega (arith, ends (c .before), pre .0 .column-limit)
 
 add-end : tie.Need-add-end
-add-end c = omega (arith, ends (c .before), c .before .before .before .before .before .before .pre .0 .column-limit)
+add-end c =
+    let pre = c .before .before .before .before .before .before .pre in
+    omega (arith, ends (c .before), pre .0 .column-limit)
 
 put-links-requires : tie.Need-put-links-requires
 put-links-requires c κs =
@@ -72,14 +76,19 @@ put-links-requires c κs =
 
 put-step-requires : tie.Need-put-step-requires
 put-step-requires c κs =
-    let s = (c .before .before .before .before .before .before) in
-    room-front (c .before .before .before .put-links .last .1 .1 .0) (c .before .before .before .put-links .result) (cleared s) (products s ++ last s) (wrote-room (links s) (cleared s ++ (products s ++ last s)) (room s) (c .before .before .before .put-links .ensures))
+    let put-links = c .before .before .before .put-links in
+    let r = c .before .before .before .before .before .before in
+    let s = r in
+    room-front (put-links .last .1 .1 .0) (put-links .result) (cleared s) (products s ++ last s) (wrote-room (links s) (cleared s ++ (products s ++ last s)) (room s) (put-links .ensures))
 
 put-products-requires : tie.Need-put-products-requires
 put-products-requires c κs =
-    let s = (c .before .before .before .before .before .before .before .before .before .before) in
-    let rest = wrote-room (cleared s) (products s ++ last s) (wrote-room (links s) (cleared s ++ (products s ++ last s)) (room s) (c .before .before .before .before .before .before .before .put-links .ensures)) (c .before .before .before .put-step .ensures) in
-    (start s .pre .0, (start s .pre .1 .1 .0, room-front (c .before .before .before .put-step .last .0) (c .before .before .before .put-step .result) (products s) (last s) rest))
+    let put-links = c .before .before .before .before .before .before .before .put-links in
+    let put-step = c .before .before .before .put-step in
+    let r = c .before .before .before .before .before .before .before .before .before .before in
+    let s = r in
+    let rest = wrote-room (cleared s) (products s ++ last s) (wrote-room (links s) (cleared s ++ (products s ++ last s)) (room s) (put-links .ensures)) (put-step .ensures) in
+    (start s .pre .0, (start s .pre .1 .1 .0, room-front (put-step .last .0) (put-step .result) (products s) (last s) rest))
 
 sub-put-adds : tie.Need-sub-put-adds
 sub-put-adds c = search needs
@@ -88,21 +97,31 @@ part-put-adds-start : tie.Need-part-put-adds-start
 part-put-adds-start c = search needs
 
 part-put-adds-end : tie.Need-part-put-adds-end
-part-put-adds-end c = fits (c .before .before .before .before .before .before .before .before .before .before .before .before .before .before)
+part-put-adds-end c =
+    let r = c .before .before .before .before .before .before .before .before .before .before .before .before .before .before in
+    fits r
 
 put-adds-requires : tie.Need-put-adds-requires
 put-adds-requires c κs =
-    let s = (c .before .before .before .before .before .before .before .before .before .before .before .before .before .before .before) in
-    let rest = wrote-room (cleared s) (products s ++ last s) (wrote-room (links s) (cleared s ++ (products s ++ last s)) (room s) (c .before .before .before .before .before .before .before .before .before .before .before .before .put-links .ensures)) (c .before .before .before .before .before .before .before .before .put-step .ensures) in
-    (omega (arith, cut-length (start s .args .beta .now) (first s) (s .variables .result) (fits s), s .variables .ensures, start s .pre .0 .variable-limit), wrote-room (products s) (last s) rest (c .before .before .before .before .put-products .ensures))
+    let put-links = c .before .before .before .before .before .before .before .before .before .before .before .before .put-links in
+    let put-step = c .before .before .before .before .before .before .before .before .put-step in
+    let put-products = c .before .before .before .before .put-products in
+    let r = c .before .before .before .before .before .before .before .before .before .before .before .before .before .before .before in
+    let s = r in
+    let rest = wrote-room (cleared s) (products s ++ last s) (wrote-room (links s) (cleared s ++ (products s ++ last s)) (room s) (put-links .ensures)) (put-step .ensures) in
+    (omega (arith, cut-length (start s .args .beta .now) (first s) (s .variables .result) (fits s), s .variables .ensures, start s .pre .0 .variable-limit), wrote-room (products s) (last s) rest (put-products .ensures))
 
 same-length : tie.Need-same-length
 same-length c = search needs
 
 returns : tie.Need-returns
 returns c =
-    let s = (c .before .before .before .before .before .before .before .before .before .before .before .before .before .before .before .before .before .before) in
-    let w = wrote-4 (links s) (cleared s) (products s) (last s) (room s) (c .before .before .before .before .before .before .before .before .before .before .before .before .before .before .before .put-links .ensures) (c .before .before .before .before .before .before .before .before .before .before .before .put-step .ensures) (c .before .before .before .before .before .before .before .put-products .ensures) (c .before .before .put-adds .ensures) in
+    let put-links = c .before .before .before .before .before .before .before .before .before .before .before .before .before .before .before .put-links in
+    let put-step = c .before .before .before .before .before .before .before .before .before .before .before .put-step in
+    let put-products = c .before .before .before .before .before .before .before .put-products in
+    let r = c .before .before .before .before .before .before .before .before .before .before .before .before .before .before .before .before .before .before in
+    let s = r in
+    let w = wrote-4 (links s) (cleared s) (products s) (last s) (room s) (put-links .ensures) (put-step .ensures) (put-products .ensures) (c .before .before .put-adds .ensures) in
     w .list ∙ ap (placed (start s .args .out .now) 0) (split s)
 
 pub put-program-spec : {M : Type 1} → statement M

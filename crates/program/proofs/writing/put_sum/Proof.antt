@@ -17,7 +17,11 @@ same-length : tie.Need-same-length
 same-length c = search needs
 
 returns : tie.Need-returns
-returns c = wrote-then (clear (c .before .before .before .before .before .before .before .before .before .before .args .to)) (adds (c .before .before .before .before .before .before .before .before .before .before .args .to) (at (c .before .before .before .before .before .before .before .before .before .before .args .weights .now)) (length (c .before .before .before .before .before .before .before .before .before .before .args .weights .now))) (c .before .before .before .before .before .before .before .before .before .before .pre .1) (c .before .before .before .before .before .before .put-step .ensures) (c .before .before .put-adds .ensures)
+returns c =
+    let args = c .before .before .before .before .before .before .before .before .before .before .args in
+    let pre = c .before .before .before .before .before .before .before .before .before .before .pre in
+    let put-step = c .before .before .before .before .before .before .put-step in
+    wrote-then (clear (args .to)) (adds (args .to) (at (args .weights .now)) (length (args .weights .now))) (pre .1) (put-step .ensures) (c .before .before .put-adds .ensures)
 
 pub put-sum-spec : {M : Type 1} → statement M
 put-sum-spec = tie.close (tie.spec put-step-requires put-adds-requires same-length returns)

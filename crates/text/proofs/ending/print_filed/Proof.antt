@@ -17,19 +17,34 @@ array-borrow-prefix-beta : tie.Need-array-borrow-prefix-beta
 array-borrow-prefix-beta c = search needs
 
 slice-aggregate-read-off : tie.Need-slice-aggregate-read-off
-slice-aggregate-read-off c = sym (length-take-le _ _ (columns-small _ (c .before .before .before .before .before .before .before .pre .0) (c .before .columns .ensures)))
+slice-aggregate-read-off c =
+    let pre = c .before .before .before .before .before .before .before .pre in
+    sym (length-take-le _ _ (columns-small _ (pre .0) (c .before .columns .ensures)))
 
 read-off-requires : tie.Need-read-off-requires
-read-off-requires c κs = (columns-small _ (c .before .before .before .before .before .before .before .pre .0) (c .before .columns .ensures), (c .before .before .before .before .before .before .before .pre .1 .1 .1 .0 .places ∙ ap (λ (n : ℕ). n * (n + 1)) (sym (c .before .columns .ensures)), length-take-le _ _ (columns-small _ (c .before .before .before .before .before .before .before .pre .0) (c .before .columns .ensures))))
+read-off-requires c κs =
+    let pre = c .before .before .before .before .before .before .before .pre in
+    (columns-small _ (pre .0) (c .before .columns .ensures), (pre .1 .1 .1 .0 .places ∙ ap (λ (n : ℕ). n * (n + 1)) (sym (c .before .columns .ensures)), length-take-le _ _ (columns-small _ (pre .0) (c .before .columns .ensures))))
 
 array-share-prefix-beta : tie.Need-array-share-prefix-beta
-array-share-prefix-beta c = read-front (c .before .before .before .before .before .before .before .before .before .args .plan) (c .before .before .before .before .before .before .before .before .before .args .store .now) _ _ _ (c .before .before .before .columns .ensures) (c .before .read-off .ensures)
+array-share-prefix-beta c =
+    let args = c .before .before .before .before .before .before .before .before .before .args in
+    let columns = c .before .before .before .columns in
+    read-front (args .plan) (args .store .now) _ _ _ (columns .ensures) (c .before .read-off .ensures)
 
 slice-aggregate-print-program : tie.Need-slice-aggregate-print-program
-slice-aggregate-print-program c = read-part (c .before .before .before .before .before .before .before .before .before .before .args .plan) (c .before .before .before .before .before .before .before .before .before .before .args .store .now) _ _ _ (c .before .before .before .before .columns .ensures) (c .before .before .read-off .ensures)
+slice-aggregate-print-program c =
+    let args = c .before .before .before .before .before .before .before .before .before .before .args in
+    let columns = c .before .before .before .before .columns in
+    read-part (args .plan) (args .store .now) _ _ _ (columns .ensures) (c .before .before .read-off .ensures)
 
 print-program-requires : tie.Need-print-program-requires
-print-program-requires c κs = (c .before .before .before .before .before .before .before .before .before .before .before .before .pre .0, (c .before .before .before .before .before .before .before .before .before .before .before .before .pre .1 .0, (c .before .before .before .before .before .before .before .before .before .before .before .before .pre .1 .1 .0, (read-residues (c .before .before .before .before .before .before .before .before .before .before .before .before .args .plan) (c .before .before .before .before .before .before .before .before .before .before .before .before .args .store .now) _ _ _ (c .before .before .before .before .before .before .columns .ensures) (c .before .before .before .before .read-off .ensures) (c .before .before .before .before .before .before .before .before .before .before .before .before .pre .0) (c .before .before .before .before .before .before .before .before .before .before .before .before .pre .1 .1 .1 .0), c .before .before .before .before .before .before .before .before .before .before .before .before .pre .1 .1 .1 .1))))
+print-program-requires c κs =
+    let pre = c .before .before .before .before .before .before .before .before .before .before .before .before .pre in
+    let args = c .before .before .before .before .before .before .before .before .before .before .before .before .args in
+    let columns = c .before .before .before .before .before .before .columns in
+    let read-off = c .before .before .before .before .read-off in
+    (pre .0, (pre .1 .0, (pre .1 .1 .0, (read-residues (args .plan) (args .store .now) _ _ _ (columns .ensures) (read-off .ensures) (pre .0) (pre .1 .1 .1 .0), pre .1 .1 .1 .1))))
 
 same-length : tie.Need-same-length
 same-length c = search needs
@@ -38,7 +53,12 @@ same-length-2 : tie.Need-same-length-2
 same-length-2 c = search needs
 
 returns : tie.Need-returns
-returns c = prints _ _ _ _ _ (ap (λ (β : List ℕ). listing (c .before .before .before .before .before .before .before .before .before .before .before .before .before .before .before .before .before .args .plan) (c .before .before .before .before .before .before .before .before .before .before .before .before .before .before .before .before .before .args .weights .now) (c .before .before .before .before .before .before .before .before .before .before .before .before .before .before .before .before .before .args .d .now) β) (read-back (c .before .before .before .before .before .before .before .before .before .before .before .before .before .before .before .before .before .args .plan) (c .before .before .before .before .before .before .before .before .before .before .before .before .before .before .before .before .before .args .store .now) _ _ _ (c .before .before .before .before .before .before .before .before .before .before .before .columns .ensures) (c .before .before .before .before .before .before .before .before .before .read-off .ensures))) (c .before .before .before .before .print-program .ensures .0) (c .before .before .before .before .print-program .ensures .1)
+returns c =
+    let args = c .before .before .before .before .before .before .before .before .before .before .before .before .before .before .before .before .before .args in
+    let columns = c .before .before .before .before .before .before .before .before .before .before .before .columns in
+    let read-off = c .before .before .before .before .before .before .before .before .before .read-off in
+    let print-program = c .before .before .before .before .print-program in
+    prints _ _ _ _ _ (ap (λ (β : List ℕ). listing (args .plan) (args .weights .now) (args .d .now) β) (read-back (args .plan) (args .store .now) _ _ _ (columns .ensures) (read-off .ensures))) (print-program .ensures .0) (print-program .ensures .1)
 
 pub print-filed-spec : {M : Type 1} → statement M
 print-filed-spec =

@@ -35,7 +35,10 @@ same-length c = search needs
 
 returns-2 : tie.Need-returns-2
 unfolding printed printedLength
-returns-2 c = (rw (le-ltb _ 131072 (c .before .before .before .before .before .before .before .before .before .before .before .before .before .before .before .before .if1 .left)) (c .before .before .before .before .before .before .before .before .print-read .ensures .0), rw (le-ltb _ 131072 (c .before .before .before .before .before .before .before .before .before .before .before .before .before .before .before .before .if1 .left)) (c .before .before .before .before .before .before .before .before .print-read .ensures .1))
+returns-2 c =
+    let if1 = c .before .before .before .before .before .before .before .before .before .before .before .before .before .before .before .before .if1 in
+    let print-read = c .before .before .before .before .before .before .before .before .print-read in
+    (rw (le-ltb _ 131072 (if1 .left)) (print-read .ensures .0), rw (le-ltb _ 131072 (if1 .left)) (print-read .ensures .1))
 
 pub print-text-spec : {M : Type 1} → statement M
 print-text-spec =

@@ -29,8 +29,10 @@ same-length c = search needs
 
 returns : tie.Need-returns
 returns c =
-    let e = c .before .before .read-part .ensures .0 ∙ ap (λ (n : ℕ). first (partCauses n (c .before .before .before .before .before .before .args .p) (c .before .before .before .before .before .before .args .line .now))) (cut-length (c .before .before .before .before .before .before .args .buffer .now) (c .before .before .before .before .before .before .args .from) (c .before .before .before .before .before .before .args .count) (c .before .before .before .before .before .before .pre)) in
-    (e, part-placed (c .before .before .before .before .before .before .args .count) (c .before .before .before .before .before .before .args .p) _ (c .before .before .before .before .before .before .args .line .now) e (c .before .before .before .before .before .before .args .buffer .now) _ (c .before .before .before .before .before .before .args .from) (c .before .before .before .before .before .before .pre) (c .before .before .read-part .ensures .1))
+    let args = c .before .before .before .before .before .before .args in
+    let pre = c .before .before .before .before .before .before .pre in
+    let e = c .before .before .read-part .ensures .0 ∙ ap (λ (n : ℕ). first (partCauses n (args .p) (args .line .now))) (cut-length (args .buffer .now) (args .from) (args .count) (pre)) in
+    (e, part-placed (args .count) (args .p) _ (args .line .now) e (args .buffer .now) _ (args .from) (pre) (c .before .before .read-part .ensures .1))
 
 pub part-line-spec : {M : Type 1} → statement M
 part-line-spec =

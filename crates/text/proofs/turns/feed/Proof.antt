@@ -13,25 +13,34 @@ abbrev μ-loop : tie.MeasureT-loop
 μ-loop chunk line₀ weights₀ tables₀ d₀ store₀ now₀ i₀ line weights tables d store now i = length chunk - i
 
 loop-holds : tie.Need-loop-holds Inv-loop μ-loop
-loop-holds c = feeding-none _ _ _ _ _ _ _ (c .before .before .before .before .before .before .pre .0) (c .before .before .before .before .before .before .pre .1 .0 .0)
+loop-holds c =
+    let pre = c .before .before .before .before .before .before .pre in
+    feeding-none _ _ _ _ _ _ _ (pre .0) (pre .1 .0 .0)
 
 shared-slice-read-push : tie.Need-shared-slice-read-push Inv-loop μ-loop
 shared-slice-read-push c = omega (arith, c .before .loop-test .taken)
 
 push-requires : tie.Need-push-requires Inv-loop μ-loop
 push-requires c κs =
-    let f = c .before .before .before .before .before .before .before .loop .inv in
-    let limits = c .before .before .before .before .before .before .before .before .before .before .before .before .before .before .pre .1 .0 in
-    (f .fits, ((f .held, omega (arith, limits, f .line-same), omega (arith, limits, f .number, c .before .before .before .before .before .before .loop-test .taken)), feeding-room f (c .before .before .before .before .before .before .before .before .before .before .before .before .before .before .pre .1 .1)))
+    let loop = c .before .before .before .before .before .before .before .loop in
+    let pre = c .before .before .before .before .before .before .before .before .before .before .before .before .before .before .pre in
+    let f = loop .inv in
+    let limits = pre .1 .0 in
+    (f .fits, ((f .held, omega (arith, limits, f .line-same), omega (arith, limits, f .number, c .before .before .before .before .before .before .loop-test .taken)), feeding-room f (pre .1 .1)))
 
 add-i : tie.Need-add-i Inv-loop μ-loop
-add-i c = omega (arith, c .before .before .before .before .before .before .before .before .before .before .before .before .before .before .before .before .before .loop-test .taken, c .before .before .before .before .before .before .before .before .before .before .before .before .before .before .before .before .before .before .before .before .before .before .before .before .before .pre .1)
+add-i c =
+    let pre = c .before .before .before .before .before .before .before .before .before .before .before .before .before .before .before .before .before .before .before .before .before .before .before .before .before .pre in
+    omega (arith, c .before .before .before .before .before .before .before .before .before .before .before .before .before .before .before .before .before .loop-test .taken, pre .1)
 
 loop-less : tie.Need-loop-less Inv-loop μ-loop
 loop-less c = omega (arith, c .before .before .before .before .before .before .before .before .before .before .before .before .before .before .before .before .before .loop-test .taken)
 
 loop-again : tie.Need-loop-again Inv-loop μ-loop
-loop-again c = feeding-next (c .before .before .before .before .before .before .before .before .before .before .before .before .before .before .before .before .before .before .loop .inv) _ _ _ _ _ _ (c .before .before .before .before .before .before .before .before .before .before .before .before .before .before .before .before .before .loop-test .taken) (c .before .before .before .before .before .before .before .before .before .before .push .ensures .0) (c .before .before .before .before .before .before .before .before .before .before .push .ensures .1) (c .before .before .before .before .before .before .before .before .before .before .push .kept .1 .1 .0) (c .before .before .before .before .before .before .before .before .before .before .push .kept .1 .1 .1 .0) (c .before .before .before .before .before .before .before .before .before .before .push .kept .1 .1 .1 .1 .0) (c .before .before .before .before .before .before .before .before .before .before .push .kept .1 .1 .1 .1 .1 .0) (c .before .before .before .before .before .before .before .before .before .before .push .kept .1 .1 .1 .1 .1 .1 .0)
+loop-again c =
+    let loop = c .before .before .before .before .before .before .before .before .before .before .before .before .before .before .before .before .before .before .loop in
+    let push = c .before .before .before .before .before .before .before .before .before .before .push in
+    feeding-next (loop .inv) _ _ _ _ _ _ (c .before .before .before .before .before .before .before .before .before .before .before .before .before .before .before .before .before .loop-test .taken) (push .ensures .0) (push .ensures .1) (push .kept .1 .1 .0) (push .kept .1 .1 .1 .0) (push .kept .1 .1 .1 .1 .0) (push .kept .1 .1 .1 .1 .1 .0) (push .kept .1 .1 .1 .1 .1 .1 .0)
 
 same-length : tie.Need-same-length Inv-loop μ-loop
 same-length c = c .before .loop .inv .line-same

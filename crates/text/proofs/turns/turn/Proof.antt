@@ -22,8 +22,9 @@ add-t6 c = search needs
 
 returns : tie.Need-returns
 returns c =
+    let args = c .before .before .before .args in
     let stopped = sym (c .before .stage .given .1) in
-    ((stopped, refl, omega arith), λ bytes w T d S. ap (λ (s : Stage). turned (c .before .before .before .args .line) (judgedOf s w T d S)) stopped)
+    ((stopped, refl, omega arith), λ bytes w T d S. ap (λ (s : Stage). turned (args .line) (judgedOf s w T d S)) stopped)
 
 returns-2 : tie.Need-returns-2
 returns-2 c =

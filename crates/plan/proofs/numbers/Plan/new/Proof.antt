@@ -18,22 +18,43 @@ returns : tie.Need-returns
 returns c = refused-prime (c .before .before .args .p) (c .before .before .args .s) (c .before .before .args .n) (c .before .before .args .m) (c .before .before .args .t) (sym (c .before .is-odd-prime .ensures) ∙ not-true _ (c .if1 .taken))
 
 returns-2 : tie.Need-returns-2
-returns-2 c = refused-radix (c .before .before .before .args .p) (c .before .before .before .args .s) (c .before .before .before .args .n) (c .before .before .before .args .m) (c .before .before .before .args .t) (sym (c .before .before .is-odd-prime .ensures) ∙ not-false _ (c .before .if1 .left)) (λ low high. omega arith)
+returns-2 c =
+    let args = c .before .before .before .args in
+    refused-radix (args .p) (args .s) (args .n) (args .m) (args .t) (sym (c .before .before .is-odd-prime .ensures) ∙ not-false _ (c .before .if1 .left)) (λ low high. omega arith)
 
 returns-3 : tie.Need-returns-3
-returns-3 c = refused-radix (c .before .before .before .before .args .p) (c .before .before .before .before .args .s) (c .before .before .before .before .args .n) (c .before .before .before .before .args .m) (c .before .before .before .before .args .t) (sym (c .before .before .before .is-odd-prime .ensures) ∙ not-false _ (c .before .before .if1 .left)) (λ low high. omega arith)
+returns-3 c =
+    let args = c .before .before .before .before .args in
+    let is-odd-prime = c .before .before .before .is-odd-prime in
+    refused-radix (args .p) (args .s) (args .n) (args .m) (args .t) (sym (is-odd-prime .ensures) ∙ not-false _ (c .before .before .if1 .left)) (λ low high. omega arith)
 
 returns-4 : tie.Need-returns-4
-returns-4 c = refused-range (c .before .before .before .before .before .args .p) (c .before .before .before .before .before .args .s) (c .before .before .before .before .before .args .n) (c .before .before .before .before .before .args .m) (c .before .before .before .before .before .args .t) (sym (c .before .before .before .before .is-odd-prime .ensures) ∙ not-false _ (c .before .before .before .if1 .left)) (omega arith) (omega arith) (λ h1 h2 h3 h4 h5. omega arith)
+returns-4 c =
+    let args = c .before .before .before .before .before .args in
+    let is-odd-prime = c .before .before .before .before .is-odd-prime in
+    let if1 = c .before .before .before .if1 in
+    refused-range (args .p) (args .s) (args .n) (args .m) (args .t) (sym (is-odd-prime .ensures) ∙ not-false _ (if1 .left)) (omega arith) (omega arith) (λ h1 h2 h3 h4 h5. omega arith)
 
 returns-5 : tie.Need-returns-5
-returns-5 c = refused-range (c .before .before .before .before .before .before .args .p) (c .before .before .before .before .before .before .args .s) (c .before .before .before .before .before .before .args .n) (c .before .before .before .before .before .before .args .m) (c .before .before .before .before .before .before .args .t) (sym (c .before .before .before .before .before .is-odd-prime .ensures) ∙ not-false _ (c .before .before .before .before .if1 .left)) (omega arith) (omega arith) (λ h1 h2 h3 h4 h5. omega arith)
+returns-5 c =
+    let args = c .before .before .before .before .before .before .args in
+    let is-odd-prime = c .before .before .before .before .before .is-odd-prime in
+    let if1 = c .before .before .before .before .if1 in
+    refused-range (args .p) (args .s) (args .n) (args .m) (args .t) (sym (is-odd-prime .ensures) ∙ not-false _ (if1 .left)) (omega arith) (omega arith) (λ h1 h2 h3 h4 h5. omega arith)
 
 returns-6 : tie.Need-returns-6
-returns-6 c = refused-range (c .before .before .before .before .before .before .before .args .p) (c .before .before .before .before .before .before .before .args .s) (c .before .before .before .before .before .before .before .args .n) (c .before .before .before .before .before .before .before .args .m) (c .before .before .before .before .before .before .before .args .t) (sym (c .before .before .before .before .before .before .is-odd-prime .ensures) ∙ not-false _ (c .before .before .before .before .before .if1 .left)) (omega arith) (omega arith) (λ h1 h2 h3 h4 h5. omega arith)
+returns-6 c =
+    let args = c .before .before .before .before .before .before .before .args in
+    let is-odd-prime = c .before .before .before .before .before .before .is-odd-prime in
+    let if1 = c .before .before .before .before .before .if1 in
+    refused-range (args .p) (args .s) (args .n) (args .m) (args .t) (sym (is-odd-prime .ensures) ∙ not-false _ (if1 .left)) (omega arith) (omega arith) (λ h1 h2 h3 h4 h5. omega arith)
 
 returns-7 : tie.Need-returns-7
-returns-7 c = refused-range (c .before .before .before .before .before .before .before .before .args .p) (c .before .before .before .before .before .before .before .before .args .s) (c .before .before .before .before .before .before .before .before .args .n) (c .before .before .before .before .before .before .before .before .args .m) (c .before .before .before .before .before .before .before .before .args .t) (sym (c .before .before .before .before .before .before .before .is-odd-prime .ensures) ∙ not-false _ (c .before .before .before .before .before .before .if1 .left)) (omega arith) (omega arith) (λ h1 h2 h3 h4 h5. omega arith)
+returns-7 c =
+    let args = c .before .before .before .before .before .before .before .before .args in
+    let is-odd-prime = c .before .before .before .before .before .before .before .is-odd-prime in
+    let if1 = c .before .before .before .before .before .before .if1 in
+    refused-range (args .p) (args .s) (args .n) (args .m) (args .t) (sym (is-odd-prime .ensures) ∙ not-false _ (if1 .left)) (omega arith) (omega arith) (λ h1 h2 h3 h4 h5. omega arith)
 
 add-if8 : tie.Need-add-if8
 add-if8 c = search needs
@@ -43,27 +64,52 @@ add-if8-2 c = search needs
 
 mul-if8 : tie.Need-mul-if8
 mul-if8 c =
-    let a : c .before .before .before .before .before .before .before .before .args .t + 1 ≤ 33 = omega arith in
-    let b : c .before .before .before .before .before .before .before .before .args .n + c .before .before .before .before .before .before .before .before .args .m ≤ 64 = omega arith in
+    let args = c .before .before .before .before .before .before .before .before .args in
+    let a : args .t + 1 ≤ 33 = omega arith in
+    let b : args .n + args .m ≤ 64 = omega arith in
     omega (arith, mul-le-mul a b)
 
 returns-8 : tie.Need-returns-8
-returns-8 c = refused-range (c .before .before .before .before .before .before .before .before .before .args .p) (c .before .before .before .before .before .before .before .before .before .args .s) (c .before .before .before .before .before .before .before .before .before .args .n) (c .before .before .before .before .before .before .before .before .before .args .m) (c .before .before .before .before .before .before .before .before .before .args .t) (sym (c .before .before .before .before .before .before .before .before .is-odd-prime .ensures) ∙ not-false _ (c .before .before .before .before .before .before .before .if1 .left)) (omega arith) (omega arith) (λ h1 h2 h3 h4 h5. omega arith)
+returns-8 c =
+    let args = c .before .before .before .before .before .before .before .before .before .args in
+    let is-odd-prime = c .before .before .before .before .before .before .before .before .is-odd-prime in
+    let if1 = c .before .before .before .before .before .before .before .if1 in
+    refused-range (args .p) (args .s) (args .n) (args .m) (args .t) (sym (is-odd-prime .ensures) ∙ not-false _ (if1 .left)) (omega arith) (omega arith) (λ h1 h2 h3 h4 h5. omega arith)
 
 power-requires : tie.Need-power-requires
-power-requires c κs = (omega arith, omega (arith, oddPrime-means (c .before .before .before .before .before .before .before .before .before .args .p) .0 (sym (c .before .before .before .before .before .before .before .before .is-odd-prime .ensures) ∙ not-false _ (c .before .before .before .before .before .before .before .if1 .left)) .1))
+power-requires c κs =
+    let args = c .before .before .before .before .before .before .before .before .before .args in
+    let is-odd-prime = c .before .before .before .before .before .before .before .before .is-odd-prime in
+    let if1 = c .before .before .before .before .before .before .before .if1 in
+    (omega arith, omega (arith, oddPrime-means (args .p) .0 (sym (is-odd-prime .ensures) ∙ not-false _ (if1 .left)) .1))
 
 returns-9 : tie.Need-returns-9
-returns-9 c = refused-range (c .before .before .before .before .before .before .before .before .before .before .before .args .p) (c .before .before .before .before .before .before .before .before .before .before .before .args .s) (c .before .before .before .before .before .before .before .before .before .before .before .args .n) (c .before .before .before .before .before .before .before .before .before .before .before .args .m) (c .before .before .before .before .before .before .before .before .before .before .before .args .t) (sym (c .before .before .before .before .before .before .before .before .before .before .is-odd-prime .ensures) ∙ not-false _ (c .before .before .before .before .before .before .before .before .before .if1 .left)) (omega arith) (omega arith) (λ h1 h2 h3 h4 h5. omega arith)
+returns-9 c =
+    let args = c .before .before .before .before .before .before .before .before .before .before .before .args in
+    let is-odd-prime = c .before .before .before .before .before .before .before .before .before .before .is-odd-prime in
+    let if1 = c .before .before .before .before .before .before .before .before .before .if1 in
+    refused-range (args .p) (args .s) (args .n) (args .m) (args .t) (sym (is-odd-prime .ensures) ∙ not-false _ (if1 .left)) (omega arith) (omega arith) (λ h1 h2 h3 h4 h5. omega arith)
 
 cast-t11 : tie.Need-cast-t11
-cast-t11 c = omega (arith, oddPrime-means (c .before .before .before .before .before .before .before .before .before .before .before .args .p) .0 (sym (c .before .before .before .before .before .before .before .before .before .before .is-odd-prime .ensures) ∙ not-false _ (c .before .before .before .before .before .before .before .before .before .if1 .left)) .1)
+cast-t11 c =
+    let args = c .before .before .before .before .before .before .before .before .before .before .before .args in
+    let is-odd-prime = c .before .before .before .before .before .before .before .before .before .before .is-odd-prime in
+    let if1 = c .before .before .before .before .before .before .before .before .before .if1 in
+    omega (arith, oddPrime-means (args .p) .0 (sym (is-odd-prime .ensures) ∙ not-false _ (if1 .left)) .1)
 
 cast-t12 : tie.Need-cast-t12
-cast-t12 c = omega (arith, oddPrime-means (c .before .before .before .before .before .before .before .before .before .before .before .args .p) .0 (sym (c .before .before .before .before .before .before .before .before .before .before .is-odd-prime .ensures) ∙ not-false _ (c .before .before .before .before .before .before .before .before .before .if1 .left)) .1)
+cast-t12 c =
+    let args = c .before .before .before .before .before .before .before .before .before .before .before .args in
+    let is-odd-prime = c .before .before .before .before .before .before .before .before .before .before .is-odd-prime in
+    let if1 = c .before .before .before .before .before .before .before .before .before .if1 in
+    omega (arith, oddPrime-means (args .p) .0 (sym (is-odd-prime .ensures) ∙ not-false _ (if1 .left)) .1)
 
 returns-10 : tie.Need-returns-10
-returns-10 c = accepts (c .before .before .before .before .before .before .before .before .before .before .before .args .p) (c .before .before .before .before .before .before .before .before .before .before .before .args .s) (c .before .before .before .before .before .before .before .before .before .before .before .args .n) (c .before .before .before .before .before .before .before .before .before .before .before .args .m) (c .before .before .before .before .before .before .before .before .before .before .before .args .t) (sym (c .before .before .before .before .before .before .before .before .before .before .is-odd-prime .ensures) ∙ not-false _ (c .before .before .before .before .before .before .before .before .before .if1 .left)) (omega arith) (omega arith) (omega arith) (omega arith) (omega arith) (omega arith) (omega arith)
+returns-10 c =
+    let args = c .before .before .before .before .before .before .before .before .before .before .before .args in
+    let is-odd-prime = c .before .before .before .before .before .before .before .before .before .before .is-odd-prime in
+    let if1 = c .before .before .before .before .before .before .before .before .before .if1 in
+    accepts (args .p) (args .s) (args .n) (args .m) (args .t) (sym (is-odd-prime .ensures) ∙ not-false _ (if1 .left)) (omega arith) (omega arith) (omega arith) (omega arith) (omega arith) (omega arith) (omega arith)
 
 pub new-spec : {M : Type 1} → statement M
 new-spec =

@@ -15,7 +15,9 @@ element-write-self : tie.Need-element-write-self
 element-write-self c = search needs
 
 returns : tie.Need-returns
-returns c = ap (set (c .before .before .before .args .t1 .at) (c .before .before .before .args .to)) (c .table-at .ensures)
+returns c =
+    let args = c .before .before .before .args in
+    ap (set (args .t1 .at) (args .to)) (c .table-at .ensures)
 
 pub boot-spec : {M : Type 1} → statement M
 boot-spec =

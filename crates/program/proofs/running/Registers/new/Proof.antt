@@ -29,7 +29,9 @@ loop-less : tie.Need-loop-less Inv-loop μ-loop
 loop-less c = omega arith
 
 loop-again : tie.Need-loop-again Inv-loop μ-loop
-loop-again c = loaded-next (c .before .before .loop .inv) (c .before .loop-test .taken) (c .before .before .before .pre)
+loop-again c =
+    let pre = c .before .before .before .pre in
+    loaded-next (c .before .before .loop .inv) (c .before .loop-test .taken) (pre)
 
 returns : tie.Need-returns Inv-loop μ-loop
 returns c = (c .before .loop .inv .size, loaded-all (c .before .loop .inv) (c .loop-test .left))
