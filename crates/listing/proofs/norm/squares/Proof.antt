@@ -16,7 +16,9 @@ Inv-loop ws total₀ j₀ total j = (j ≤ length ws) × (total ≡ dot ws ws j)
 abbrev μ-loop : tie.MeasureT-loop
 μ-loop ws total₀ j₀ total j = length ws - j
 
-term-small : (c : tie.After-shared-slice-known Inv-loop μ-loop) → getD (c .before .before .before .args .ws .now) (c .before .before .loop .j) 0 * getD (c .before .before .before .args .ws .now) (c .before .before .loop .j) 0 ≤ 255 * 255
+term-small : (c : tie.After-shared-slice-known Inv-loop μ-loop) →
+    let args = c .before .before .before .args in
+    getD (args .ws .now) (c .before .before .loop .j) 0 * getD (args .ws .now) (c .before .before .loop .j) 0 ≤ 255 * 255
 term-small c =
     let args = c .before .before .before .args in
     let a : getD (args .ws .now) (c .before .before .loop .j) 0 ≤ 255 = omega (arith, c .shared-slice-known .given (c .before .before .loop .j)) in

@@ -24,15 +24,22 @@ enum-known-k c = search needs
 enum-known-plan : tie.Need-enum-known-plan
 enum-known-plan c = search needs
 
-refused : (c : tie.After-k) → checked (c .before .before .before .before .before .before .before .args .p) (c .before .before .before .before .before .before .before .args .s) (c .before .before .before .before .before .before .before .args .n) (c .before .before .before .before .before .before .before .args .m) (c .before .before .before .before .before .before .before .args .t) ≡ Refused (c .k .given .0 .0)
+refused : (c : tie.After-k) →
+    let args = c .before .before .before .before .before .before .before .args in
+    checked (args .p) (args .s) (args .n) (args .m) (args .t) ≡ Refused (c .k .given .0 .0)
 refused c = sym (c .before .before .new .ensures) ∙ c .k .given .1
 
-accepted : (c : tie.After-plan) → checked (c .before .before .before .before .before .before .before .args .p) (c .before .before .before .before .before .before .before .args .s) (c .before .before .before .before .before .before .before .args .n) (c .before .before .before .before .before .before .before .args .m) (c .before .before .before .before .before .before .before .args .t) ≡ Accepted (c .plan .given .0 .0)
+accepted : (c : tie.After-plan) →
+    let args = c .before .before .before .before .before .before .before .args in
+    checked (args .p) (args .s) (args .n) (args .m) (args .t) ≡ Accepted (c .plan .given .0 .0)
 accepted c = sym (c .before .before .new .ensures) ∙ c .plan .given .1
 
 -- the parts' refusal, with β's length against the plan's columns
-parts : (c : tie.After-part-refusal) → let P = c .before .before .before .plan .given .0 .0 in
-    c .part-refusal .result ≡ first (partCauses P (c .before .before .before .before .before .before .before .before .before .before .args .weights .now) (c .before .before .before .before .before .before .before .before .before .before .args .tables .now) (c .before .before .before .before .before .before .before .before .before .before .args .d .now) (eqb (length (c .before .before .before .before .before .before .before .before .before .before .args .beta .now)) (columns P)))
+parts : (c : tie.After-part-refusal) →
+    let plan = c .before .before .before .plan in
+    let args = c .before .before .before .before .before .before .before .before .before .before .args in
+    let P = plan .given .0 .0 in
+    c .part-refusal .result ≡ first (partCauses P (args .weights .now) (args .tables .now) (args .d .now) (eqb (length (args .beta .now)) (columns P)))
 parts c = rw (c .before .columns .ensures) at (c .part-refusal .ensures)
 
 columns-requires : tie.Need-columns-requires

@@ -9,10 +9,14 @@ use Rattle.plan.proofs.Refusals.{call-within, call-numbers, call-parts,
 use Rattle.plan.proofs.entry.check.Statement.{statement}
 use Rattle.plan.proofs.entry.check.Tie as tie
 
-refused : (c : tie.After-k) → checked (c .before .before .before .before .before .before .args .p) (c .before .before .before .before .before .before .args .s) (c .before .before .before .before .before .before .args .n) (c .before .before .before .before .before .before .args .m) (c .before .before .before .before .before .before .args .t) ≡ Refused (c .k .given .0 .0)
+refused : (c : tie.After-k) →
+    let args = c .before .before .before .before .before .before .args in
+    checked (args .p) (args .s) (args .n) (args .m) (args .t) ≡ Refused (c .k .given .0 .0)
 refused c = sym (c .before .before .new .ensures) ∙ c .k .given .1
 
-accepted : (c : tie.After-plan) → checked (c .before .before .before .before .before .before .args .p) (c .before .before .before .before .before .before .args .s) (c .before .before .before .before .before .before .args .n) (c .before .before .before .before .before .before .args .m) (c .before .before .before .before .before .before .args .t) ≡ Accepted (c .plan .given .0 .0)
+accepted : (c : tie.After-plan) →
+    let args = c .before .before .before .before .before .before .args in
+    checked (args .p) (args .s) (args .n) (args .m) (args .t) ≡ Accepted (c .plan .given .0 .0)
 accepted c = sym (c .before .before .new .ensures) ∙ c .plan .given .1
 
 -- a refusal that is 0 passes on to the call's own causes, of which there are none

@@ -30,7 +30,9 @@ loop-holds c =
     (written-none _ _ _ (pre .1 .1 .1), omega arith, omega arith)
 
 -- the last block begins where the products' blocks end
-last-from : (c : tie.Else1 Inv-loop μ-loop) → c .before .before .loop .from ≡ c .before .before .before .before .before .before .before .args .plan .t * variables (c .before .before .before .before .before .before .before .args .plan)
+last-from : (c : tie.Else1 Inv-loop μ-loop) →
+    let args = c .before .before .before .before .before .before .before .args in
+    c .before .before .loop .from ≡ args .plan .t * variables (args .plan)
 last-from c =
     let args = c .before .before .before .before .before .before .before .args in
     let b : c .before .before .loop .b ≡ args .plan .t = omega arith in

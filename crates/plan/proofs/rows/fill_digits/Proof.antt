@@ -32,7 +32,9 @@ loop-holds c =
     (written-none _ _ _ (pre .1), c .entries .ensures ∙ ap (λ (k : ℕ). args .plan .s ^ k) (sym (sub-zero _)))
 
 -- the next digit's weight
-weight : (c : tie.Then1 Inv-loop μ-loop) → c .before .before .loop .q / c .before .before .before .before .before .before .args .plan .s ≡ c .before .before .before .before .before .before .args .plan .s ^ (c .before .before .before .before .before .before .args .plan .n - suc (c .before .before .loop .j))
+weight : (c : tie.Then1 Inv-loop μ-loop) →
+    let args = c .before .before .before .before .before .before .args in
+    c .before .before .loop .q / args .plan .s ≡ args .plan .s ^ (args .plan .n - suc (c .before .before .loop .j))
 weight c =
     let args = c .before .before .before .before .before .before .args in
     let P = args .plan in

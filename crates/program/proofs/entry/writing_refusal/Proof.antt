@@ -28,7 +28,9 @@ start c = c .before .before .before .before .before .before
 parts : (c : tie.After-part-refusal) → c .part-refusal .result ≡ first (partCauses (start c .args .plan) (start c .args .weights .now) (start c .args .tables .now) (start c .args .d .now) (eqb (length (start c .args .beta .now)) (columns (start c .args .plan))))
 parts c = rw (c .before .columns .ensures) at (c .part-refusal .ensures)
 
-counted : (c : tie.After-step-count) → c .step-count .result ≡ stepCount (c .before .before .before .before .before .before .before .before .before .before .args .plan)
+counted : (c : tie.After-step-count) →
+    let args = c .before .before .before .before .before .before .before .before .before .before .args in
+    c .step-count .result ≡ stepCount (args .plan)
 unfolding stepCount
 counted c = c .step-count .ensures
 
