@@ -12,7 +12,7 @@ use Rattle.plan.specs.Rows.{digit, link, chain, values, weighted, rowPlace, row
 use Rattle.store.specs.declared.elimination.Filed.the-variants.{New, Implied, Refused}
 use Rattle.store.specs.Elimination.{isZeroRow, isPivot, isReduced, residual, lead, normal, put, outcome, after, flat}
 use Rattle.store.specs.Calls.{fileCauses, answered, filed, coefficients}
-use Rattle.program.specs.Steps.{bootstraps}
+use Rattle.program.specs.Steps.{bootstraps, tableAt}
 use Rattle.program.specs.Layout.{adds, linkSteps, productSteps, layout, stepCount}
 use Rattle.demands.specs.Demand3.{Given, Filing, ours, call, refusal, answer, storeAfter, emptyStore, storeOf}
 
@@ -21,6 +21,9 @@ X = record { numbers = plan 3 2 2 0 1; weights = []; tables = []; products = 1 �
 
 abbrev pub L : Given
 L = record { numbers = plan 3 2 1 1 0; weights = 1 ∷ []; tables = 1 ∷ 0 ∷ 0 ∷ []; products = [] }
+
+abbrev pub F : Given
+F = record { numbers = plan 5 2 1 0 0; weights = []; tables = []; products = [] }
 
 -- the store after some filings
 abbrev pub from : Given → List Filing → List ℕ
@@ -43,12 +46,12 @@ pub record Starred : Type 0 where
   pub link-bootstraps : bootstraps (layout (L .numbers) (L .weights) (L .products) (0 ∷ 1 ∷ [])) ≡ 1
   pub link-steps : stepCount (L .numbers) ≡ 6
   -- "p=5: table m is 0,4,1,1,4; table m+1 is 0,1,4,4,1; 2 times 3 gives 1."
-  pub five-square : tab 5 (square 5) ≡ 0 ∷ 4 ∷ 1 ∷ 1 ∷ 4 ∷ []
-  pub five-minus : tab 5 (minusSquare 5) ≡ 0 ∷ 1 ∷ 4 ∷ 4 ∷ 1 ∷ []
-  pub five-product : (square 5 ((2 + 3) % 5) + minusSquare 5 ((2 + 4 * 3) % 5)) % 5 ≡ 1
+  pub five-square : tab 5 (tableAt (F .numbers) (F .tables) 0) ≡ 0 ∷ 4 ∷ 1 ∷ 1 ∷ 4 ∷ []
+  pub five-minus : tab 5 (tableAt (F .numbers) (F .tables) 1) ≡ 0 ∷ 1 ∷ 4 ∷ 4 ∷ 1 ∷ []
+  pub five-product : (tableAt (F .numbers) (F .tables) 0 ((2 + 3) % 5) + tableAt (F .numbers) (F .tables) 1 ((2 + 4 * 3) % 5)) % 5 ≡ 1
 
 pub starred : Starred
-unfolding storeOf storeAfter answer refusal answered filed coefficients fileCauses callCauses badRadix outOfRange oddPrime isPrime every lengthsFit valuesFit isZeroRow isPivot isReduced residual lead normal put outcome after flat tab sum row rowPlace weighted values chain link digit inverse square minusSquare bootstraps layout stepCount joined linkSteps productSteps adds
+unfolding storeOf storeAfter answer refusal answered filed coefficients fileCauses callCauses badRadix outOfRange oddPrime isPrime every lengthsFit valuesFit isZeroRow isPivot isReduced residual lead normal put outcome after flat tab sum row rowPlace weighted values chain link digit inverse square minusSquare tableAt bootstraps layout stepCount joined linkSteps productSteps adds
 starred =
     record {
       xor-1 = refl;

@@ -9,7 +9,8 @@
 --     Contradicts G K i v       no coefficients reproduce (i, v) together with all of K
 --     Turn G S K f              what is claimed of one call, with the store S before it and the entries K kept before it
 --     coefficientsRead, programWritten, runAnswer       what `coefficients` leaves, what the writer hands back, what `run` answers
---     Program G K program       what is claimed of the program written after the last call
+--     Answers G β program i     the program, run on the digits of entry i, answers Equation 1 on β modulo p and m + 2t
+--     Program G K β program     what is claimed of the program written after the last call from the coefficients β
 --     Demand3 G fs              the claim
 use mathlib.Core.Path.{_≡_}
 use mathlib.Core.Bool.{Bool, true, false, cond}
@@ -23,8 +24,8 @@ use Rattle.plan.specs.declared.numbers.Plan.{Plan}
 use Rattle.plan.specs.Causes.{first, result}
 use Rattle.plan.specs.Numbers.{columns, entries}
 use Rattle.plan.specs.Parts.{callCauses}
-use Rattle.plan.specs.Rows.{digit}
-use Rattle.plan.specs.Equation.{reproduced}
+use Rattle.plan.specs.Rows.{digit, values}
+use Rattle.plan.specs.Equation.{equation1, reproduced}
 use Rattle.store.specs.declared.elimination.Filed.{Filed}
 use Rattle.store.specs.declared.elimination.Filed.the-variants.{New, Implied, Refused}
 use Rattle.store.specs.Elimination.{outcome, cells}
@@ -142,13 +143,20 @@ runAnswer G program i =
     ran (first (runCauses (P .p) (P .s) (P .n) (P .m) (P .t) (G .weights) (G .tables) (G .products) program digits))
     (output P (G .tables) program digits) (bootstraps program)
 
--- run on each kept input it yields the kept value, and on every input it counts m + 2t
-pub record Program (G : Given) (K : List (ℕ × ℕ)) (program : List ℕ) : Type 0 where
+-- demand 2 of one input: the program answers the right-hand side of Equation 1 modulo p, and counts m + 2t
+abbrev pub Answers : Given → List ℕ → List ℕ → ℕ → Type 0
+Answers G β program i =
+    let P = G .numbers in
+    runAnswer G program i ≡ Done (equation1 P (G .products) β (values P (G .weights) (G .tables) i) % P .p) (P .m + 2 * P .t)
+
+-- run on each kept input it yields the kept value, and on every input it answers Equation 1 on the coefficients read off; it counts m + 2t
+pub record Program (G : Given) (K : List (ℕ × ℕ)) (β program : List ℕ) : Type 0 where
   pub yields : (i v : ℕ) → List·Memᴰ (i, v) K → runAnswer G program i ≡ Done v (G .numbers .m + 2 * G .numbers .t)
-  pub counts : (i : ℕ) → i < entries (G .numbers) → (y : ℕ) × (runAnswer G program i ≡ Done y (G .numbers .m + 2 * G .numbers .t))
+  pub counts : (i : ℕ) → i < entries (G .numbers) → Answers G β program i
 
 pub record Demand3 (G : Given) (fs : List Filing) : Type 0 where
   pub turns : (before : List Filing) (f : Filing) (later : List Filing) → fs ≡ before ++ (f ∷ later)
       → Turn G (storeOf G (emptyStore G) before) (keptOf G (emptyStore G) before) f
   pub program : (b steps : List ℕ) → length b ≡ columns (G .numbers) → 4 * stepCount (G .numbers) ≤ length steps
-      → Program G (keptOf G (emptyStore G) fs) (programWritten G (coefficientsRead G (storeOf G (emptyStore G) fs) b) steps)
+      → let β = coefficientsRead G (storeOf G (emptyStore G) fs) b in
+      Program G (keptOf G (emptyStore G) fs) β (programWritten G β steps)
