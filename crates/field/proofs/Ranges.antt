@@ -1,23 +1,26 @@
--- Bytes below p.
+-- Bytes below p or within bounds, and rows to which nothing is added.
 --     below-joined       a maximum is below a bound exactly when both numbers are
 --     residues-of, below-of     the test `allBelow` says `Residues`, and back
+--     no-excess          a number is not above a bound exactly when its excess is below 1
 --     residues-tab, residues-snoc       lists of residues: by place, and with one residue more at the end
+--     plus-none          0 times a row added
 -- Assumes nothing.
 use mathlib.Core.Path.{_≡_, refl, sym, ap₂, _∙_}
 use mathlib.Core.Bool.{Bool, true, false, _&&_}
 use mathlib.Core.List.{List, [], _∷_, _++_}
-use Prim.Native.Nat.{ℕ, zero, suc, max, _≤_, _<_}
+use Prim.Native.Nat.{ℕ, zero, suc, max, _+_, _-_, _*_, _≤_, _<_}
+use native.Mathlib.Nat.{add-zero, zero-mul}
 use native.Mathlib.Decide.{decLt}
 use native.Mathlib.Omega.{arith}
-use lib.Dec.{ltb}
+use lib.Dec.{leb, ltb}
 use lib.ListN.{length}
 use Rattle.lists.specs.Places.{every, tab, at}
 use Rattle.lists.proofs.Tests.{every-at, every-of}
-use Rattle.lists.proofs.Tabs.{tab-length, tab-at}
+use Rattle.lists.proofs.Tabs.{tab-length, tab-at, is-tab}
 use Rattle.lists.proofs.Parts.{at-past}
 use Rattle.field.specs.Residues.{Residues}
-use Rattle.field.specs.Rows.{allBelow}
-use borrow.Author.Tests.{lt-ltb, le-ltb, ltb-true}
+use Rattle.field.specs.Rows.{plusTimes, allBelow}
+use borrow.Author.Tests.{lt-leb, le-leb, lt-ltb, le-ltb, ltb-true}
 
 and-false : (a : Bool) → (a && false) ≡ false
 and-false true = refl
@@ -33,6 +36,12 @@ below-joined a b r q e = elim (decLt a q) [
   | no ha ↦
       let l : q ≤ a = omega arith in
       le-ltb r q (omega arith) ∙ sym (ap₂ _&&_ (le-ltb a q l) refl)
+]
+
+pub no-excess : (x b : ℕ) → ltb (x - b) 1 ≡ leb x b
+no-excess x b = elim (decLt b x) [
+  | yes h ↦ le-ltb (x - b) 1 (omega arith) ∙ sym (lt-leb x b h)
+  | no h ↦ lt-ltb (x - b) 1 (omega arith) ∙ sym (le-leb x b (omega arith))
 ]
 
 pub residues-of : (p : ℕ) (xs : List ℕ) → 0 < p → allBelow p xs ≡ true → Residues p xs
@@ -55,3 +64,7 @@ residues-snoc p [] y pos hy h zero = hy
 residues-snoc p [] y pos hy h (suc i) = pos
 residues-snoc p (x ∷ xs) y pos hy h zero = h zero
 residues-snoc p (x ∷ xs) y pos hy h (suc i) = residues-snoc p xs y pos hy (λ k. h (suc k)) i
+
+pub plus-none : (g : ℕ) (xs ys : List ℕ) → g ≡ 0 → xs ≡ plusTimes g xs ys
+plus-none g xs ys z =
+    is-tab xs (length xs) (λ j. at xs j + g * at ys j) 0 refl (λ j l. rw (z, zero-mul (at ys j)) (sym (add-zero (at xs j))))

@@ -4,12 +4,12 @@
 --     multiple p g ys          g times ys, place by place, modulo p
 --     plusTimes g xs ys        xs plus g times ys, place by place, not reduced
 --     remainders p xs          xs modulo p, place by place
---     maxima xs ys             the larger of xs and ys, place by place
 --     allBelow p xs            each place of xs is below p, as a test
+--     allWithin bs xs          no place of xs is above its place of bs, as a test
 use mathlib.Core.Bool.{Bool}
 use mathlib.Core.List.{List}
-use Prim.Native.Nat.{ℕ, _+_, _*_, _%_, max}
-use lib.Dec.{ltb}
+use Prim.Native.Nat.{ℕ, _+_, _*_, _%_}
+use lib.Dec.{leb, ltb}
 use lib.ListN.{length}
 use Rattle.lists.specs.Places.{sum, tab, every, at}
 
@@ -28,8 +28,8 @@ plusTimes g xs ys = tab (length xs) (λ j. at xs j + g * at ys j)
 abbrev pub remainders : ℕ → List ℕ → List ℕ
 remainders p xs = tab (length xs) (λ j. at xs j % p)
 
-abbrev pub maxima : List ℕ → List ℕ → List ℕ
-maxima xs ys = tab (length xs) (λ j. max (at xs j) (at ys j))
-
 abbrev pub allBelow : ℕ → List ℕ → Bool
 allBelow p xs = every (λ j. ltb (at xs j) p) (length xs)
+
+abbrev pub allWithin : List ℕ → List ℕ → Bool
+allWithin bs xs = every (λ j. leb (at xs j) (at bs j)) (length xs)

@@ -1,7 +1,8 @@
 // Rows of residues. Each loop body is `cell` or one sum, so that the loops become vector code.
 ghost use mathlib.Core.Path.{_≡_};
-ghost use Prim.Native.Nat.{_≤_, _<_, _%_, max};
+ghost use Prim.Native.Nat.{ℕ, _+_, _-_, _*_, _≤_, _<_, _%_, max};
 ghost use lib.ListN.{length};
+ghost use Rattle.lists.specs.Places.{tab, at};
 ghost use Rattle.field.specs.Residues.{Modulus, Residues};
 ghost use Rattle.field.specs.Rows as specs;
 use crate::residues::cell;
@@ -64,9 +65,43 @@ pub fn accumulate(acc: &mut [u32], ys: &[u8], g: u8)
     requires { ⌜ Residues 4294902271 (now acc) ⌝ }
     ensures { λ _. ⌜ now (acc .exit) ≡ specs.plusTimes g (now (acc .entry)) (now (ys .entry)) ⌝ }
 {
+    if g == 0 {
+        return;
+    }
     let mut j = 0;
     while j < acc.len() {
         acc[j] = acc[j] + (g as u32) * (ys[j] as u32);
+        j += 1;
+    }
+}
+
+// The same in 16 bits, which take half the work, where each place has room for its own product.
+pub fn accumulate_short(acc: &mut [u16], ys: &[u8], g: u8)
+    requires { ⌜ length (now ys) ≡ length (now acc) ⌝ }
+    requires { ⌜ ((j : ℕ) → at (now acc) j + g * at (now ys) j < 65536) ⌝ }
+    ensures { λ _. ⌜ now (acc .exit) ≡ specs.plusTimes g (now (acc .entry)) (now (ys .entry)) ⌝ }
+{
+    if g == 0 {
+        return;
+    }
+    let mut j = 0;
+    while j < acc.len() {
+        acc[j] = acc[j] + (g as u16) * (ys[j] as u16);
+        j += 1;
+    }
+}
+
+// short added to acc, and short zero again.
+pub fn pour(acc: &mut [u32], short: &mut [u16])
+    requires { ⌜ length (now short) ≡ length (now acc) ⌝ }
+    requires { ⌜ Residues 4294901761 (now acc) ⌝ }
+    ensures { λ _. ⌜ now (acc .exit) ≡ specs.plusTimes 1 (now (acc .entry)) (now (short .entry)) ⌝ }
+    ensures { λ _. ⌜ now (short .exit) ≡ tab (length (now (short .entry))) (λ _. 0) ⌝ }
+{
+    let mut j = 0;
+    while j < acc.len() {
+        acc[j] = acc[j] + (short[j] as u32);
+        short[j] = 0;
         j += 1;
     }
 }
@@ -95,18 +130,6 @@ fn larger(a: u8, b: u8) -> u8
     a
 }
 
-// The larger of seen and xs, place by place. Each place is stored to, so that the loop becomes vector code.
-pub fn raise(seen: &mut [u8], xs: &[u8])
-    requires { ⌜ length (now xs) ≡ length (now seen) ⌝ }
-    ensures { λ _. ⌜ now (seen .exit) ≡ specs.maxima (now (seen .entry)) (now (xs .entry)) ⌝ }
-{
-    let mut j = 0;
-    while j < seen.len() {
-        seen[j] = larger(seen[j], xs[j]);
-        j += 1;
-    }
-}
-
 // Whether each byte of xs is below p, by their maximum.
 pub fn all_below(xs: &[u8], p: u8) -> bool
     requires { ⌜ 0 < p ⌝ }
@@ -119,4 +142,28 @@ pub fn all_below(xs: &[u8], p: u8) -> bool
         j += 1;
     }
     top < p
+}
+
+// By how much x is above b, or 0 where it is not.
+fn excess(x: u8, b: u8) -> u8
+    ensures { λ r. ⌜ r ≡ x - b ⌝ }
+{
+    if x <= b {
+        return 0;
+    }
+    x - b
+}
+
+// Whether no byte of xs is above its place of bounds, by the largest excess.
+pub fn all_within(xs: &[u8], bounds: &[u8]) -> bool
+    requires { ⌜ length (now bounds) ≡ length (now xs) ⌝ }
+    ensures { λ r. ⌜ r ≡ specs.allWithin (now (bounds .entry)) (now (xs .entry)) ⌝ }
+{
+    let mut top: u8 = 0;
+    let mut j = 0;
+    while j < xs.len() {
+        top = larger(top, excess(xs[j], bounds[j]));
+        j += 1;
+    }
+    top < 1
 }

@@ -2,30 +2,35 @@
 --     left-zero             left of its diagonal a row is zero
 --     row-zero              a row of a reduced store that begins with 0 on the diagonal is zero
 --     part-residues         a part of a list of residues is one
---     Subtracted            the state after q rows
+--     zeros-at              what stands in a list of zeros
+--     Subtracted            the state after q rows: the sums by place, whether they stand in one list or in two
 --     subtracted-none, subtracted-next, subtracted-all      before the first row, a row more, and after the last
---     subtracted-length, subtracted-room       the sums' length, and that each has room for a product of two bytes more
+--     subtracted-room       a list of such sums, or of parts of them, has room for another list or for a product of two bytes
+--     factor-small, added-length, added       row q times its factor: a bound, and a list that it is added to from its column on
+--     Held, rows-fit, held-none, held-room, held-small, held-fits, held-next, held-all      the same with part of the sums in 16 bits
 --     reduced-sums          the sums reduced are the residual
 -- Assumes nothing.
-use mathlib.Core.Path.{_≡_, refl, sym, ap, ap₂, subst⁻¹, _∙_}
+use mathlib.Core.Path.{_≡_, refl, sym, ap, ap₂, _∙_}
+use mathlib.Core.Bool.{Bool, true, false, cond}
 use mathlib.Core.Logic.{⊎-elim}
 use mathlib.Core.List.{List, _++_}
-use Prim.Native.Nat.{ℕ, _+_, _-_, _*_, _%_, _≤_, _<_}
-use native.Mathlib.Nat.{add-zero, one-mul, mul-zero, mod-lt, le-of-lt, mul-le-mul, mul-le-mul-right}
-use native.Mathlib.Decide.{decLt}
+use Prim.Native.Nat.{ℕ, _+_, _-_, _*_, _/_, _%_, _≤_, _<_}
+use native.Mathlib.Nat.{div-mul-le-self, lt-div-mul-add, pos-of-ne-zero, mul-zero, mod-lt, le-of-lt, mul-le-mul, mul-le-mul-right}
+use native.Mathlib.Decide.{decLt, ℕ-discrete}
 use native.Mathlib.Omega.{arith}
 use lib.ListN.{length, take, drop, length-take}
+use lib.Dec.{eqb}
+use borrow.Author.Tests.{ne-eqb}
 use Rattle.lists.specs.Places.{sum, tab, at}
 use Rattle.lists.proofs.Sums.{sum-zero, sum-next, sum-le}
 use Rattle.lists.proofs.Tabs.{tab-length, tab-at, tab-ext, is-tab}
 use Rattle.lists.proofs.Parts.{part-length, part-at, at-past}
-use Rattle.field.specs.Residues.{Residues}
+use Rattle.field.specs.Residues.{Modulus, Residues}
 use Rattle.field.specs.Rows.{plusTimes, remainders}
-use Rattle.field.proofs.Ranges.{residues-tab}
 use Rattle.field.proofs.Modular.{cong-add, sum-cong, mul-mod-l}
 use Rattle.store.specs.Elimination.{ZeroRow, Reduced, residual, cells}
-use Rattle.store.specs.Stages.{Ready, Line, deferred}
-use Rattle.store.proofs.Pasting.{pasted-length, pasted-before, pasted-within, rowTail, tail-length, tail-at}
+use Rattle.store.specs.Stages.{Ready, Line, deferred, factor, Poured}
+use Rattle.store.proofs.Pasting.{pasted-length, pasted-before, pasted-within, rowTail, tail-at, tail-residues}
 
 pub left-zero : (p C : ℕ) (S : ℕ → ℕ → ℕ) → Reduced p C S → (q j : ℕ) → q < C → j < q → S q j ≡ 0
 left-zero p C S red q j l h = ⊎-elim (λ z. z j (omega arith)) (λ v. v .left j h) (red .rows q l)
@@ -39,43 +44,49 @@ part-residues b xs a l pos h i = elim (decLt i l) [
   | no k ↦ rw (at-past (take l (drop a xs)) i (rw length-take (omega arith))) pos
 ]
 
-pub record Subtracted (p C : ℕ) (store e : List ℕ) (q begin : ℕ) (acc : List ℕ) : Type 0 where
+pub zeros-at : (n : ℕ) (xs : List ℕ) → xs ≡ tab n (λ _. 0) → (j : ℕ) → at xs j ≡ 0
+zeros-at n xs z j = elim (decLt j n) [
+  | yes l ↦ ap (λ (ys : List ℕ). at ys j) z ∙ tab-at n (λ _. 0) 0 j l
+  | no l ↦ at-past xs j (rw (z, tab-length {A = ℕ} n (λ _. 0)) (omega arith))
+]
+
+pub record Subtracted (p C : ℕ) (store e : List ℕ) (q begin : ℕ) (f : ℕ → ℕ) : Type 0 where
   pub within : q ≤ C
   pub begins : begin ≡ q * (C + 1)
-  pub list : acc ≡ tab (C + 1) (deferred p (cells C store) (at e) q)
+  pub sums : (j : ℕ) → j ≤ C → f j ≡ deferred p (cells C store) (at e) q j
 
 module _ (p C : ℕ) (store e : List ℕ) where
-  deferred-none : (j : ℕ) → deferred p (cells C store) (at e) 0 j ≡ at e j
+  pub subtracted-none : (acc acc′ : List ℕ) → acc ≡ tab (C + 1) (λ _. 0) → acc′ ≡ plusTimes 1 acc e
+      → Subtracted p C store e 0 0 (at acc′) × (length acc′ ≡ C + 1)
   unfolding deferred
-  deferred-none j = rw sum-zero (add-zero (at e j))
+  subtracted-none acc acc′ z h = (
+    record {
+      within = omega arith;
+      begins = omega arith;
+      sums = λ j l.
+          ap (λ (xs : List ℕ). at xs j) h
+          ∙ tab-at (length acc) (λ j. at acc j + 1 * at e j) 0 j (rw count (omega arith))
+          ∙ ap (λ (xs : List ℕ). at xs j + 1 * at e j) z
+          ∙ omega (arith, tab-at {A = ℕ} (C + 1) (λ _. 0) 0 j (omega arith), sum-zero (λ q. (p - at e q) % p * cells C store q j));
+    },
+    ap length h ∙ tab-length (length acc) (λ j. at acc j + 1 * at e j) ∙ count,
+  )
+    where
+      count : length acc ≡ C + 1
+      count = ap length z ∙ tab-length (C + 1) (λ _. 0)
 
-  deferred-next : (q j : ℕ) → deferred p (cells C store) (at e) (q + 1) j ≡ deferred p (cells C store) (at e) q j + (p - at e q) % p * cells C store q j
-  unfolding deferred
-  deferred-next q j = omega (arith, sum-next (λ q. (p - at e q) % p * cells C store q j) q)
-
-  pub subtracted-none : (acc acc′ : List ℕ) → acc ≡ tab (C + 1) (λ _. 0) → acc′ ≡ plusTimes 1 acc e → Subtracted p C store e 0 0 acc′
-  subtracted-none acc acc′ z h =
-      record {
-        within = omega arith;
-        begins = omega arith;
-        list =
-            h ∙ ap (λ (n : ℕ). tab n (λ j. at acc j + 1 * at e j)) (ap length z ∙ tab-length (C + 1) (λ _. 0))
-            ∙ tab-ext (C + 1) (λ j. at acc j + 1 * at e j) (deferred p (cells C store) (at e) 0) 0
-            (λ j l.
-            ap₂ _+_ (ap (λ (xs : List ℕ). at xs j) z ∙ tab-at (C + 1) (λ _. 0) 0 j l) (one-mul (at e j)) ∙ omega (arith, deferred-none j));
-      }
-
-  pub subtracted-length : {q begin : ℕ} {acc : List ℕ} → Subtracted p C store e q begin acc → length acc ≡ C + 1
-  subtracted-length {q} w = ap length (w .list) ∙ tab-length (C + 1) (deferred p (cells C store) (at e) q)
-
-  pub subtracted-all : {q begin : ℕ} {acc : List ℕ} → Subtracted p C store e q begin acc → C ≤ q → acc ≡ tab (C + 1) (deferred p (cells C store) (at e) C)
-  subtracted-all {q} w h = let c : q ≡ C = omega arith in rw c at (w .list)
+  pub subtracted-all : {q begin : ℕ} {f : ℕ → ℕ} {acc : List ℕ} → Subtracted p C store e q begin f → C ≤ q → length acc ≡ C + 1
+      → ((j : ℕ) → j ≤ C → at acc j ≡ f j) → acc ≡ tab (C + 1) (deferred p (cells C store) (at e) C)
+  subtracted-all {q} {begin} {f} {acc} w h n same =
+      let c : q ≡ C = omega arith in
+      is-tab acc (C + 1) (deferred p (cells C store) (at e) C) 0 n
+      (λ j l. same j (omega arith) ∙ w .sums j (omega arith) ∙ ap (λ (n : ℕ). deferred p (cells C store) (at e) n j) c)
 
   module _ (ready : Ready p C store) (line : Line p C e) where
     pos : 0 < p
     pos = omega (arith, ready .modulus .0)
 
-    small : (q j : ℕ) → q ≤ C → j < C + 1 → deferred p (cells C store) (at e) q j < 4294902271
+    small : (q j : ℕ) → q ≤ C → j ≤ C → deferred p (cells C store) (at e) q j < 4294901761
     unfolding deferred
     small q j l k =
         omega (arith, line .residues j, ready .modulus .1, ready .limit, sum-le (λ q. (p - at e q) % p * cells C store q j) (250 * 250) q term, mul-le-mul-right 62500 (bound))
@@ -86,70 +97,186 @@ module _ (p C : ℕ) (store e : List ℕ) where
         term : (i : ℕ) → i < q → (p - at e i) % p * cells C store i j ≤ 250 * 250
         term i h =
             let a : (p - at e i) % p ≤ 250 = omega (arith, mod-lt (p - at e i) pos, ready .modulus .1) in
-            let b : cells C store i j ≤ 250 = omega (arith, ready .reduced .residues i j (omega arith) (omega arith), ready .modulus .1) in
+            let b : cells C store i j ≤ 250 = omega (arith, ready .reduced .residues i j (omega arith) k, ready .modulus .1) in
             mul-le-mul a b
 
-    module _ {q begin : ℕ} {acc : List ℕ} (w : Subtracted p C store e q begin acc) where
-      pub subtracted-room : Residues 4294902271 acc
-      subtracted-room i =
-          subst⁻¹ (λ (xs : List ℕ). at xs i < 4294902271) (w .list)
-          (residues-tab 4294902271 (C + 1) (deferred p (cells C store) (at e) q) (omega arith) (λ j k. small q j (w .within) k) i)
+    module _ {q begin : ℕ} {f : ℕ → ℕ} (w : Subtracted p C store e q begin f) where
+      pub subtracted-room : (b : ℕ) → 4294901761 ≤ b → (acc : List ℕ) → length acc ≡ C + 1 → ((j : ℕ) → j ≤ C → at acc j ≤ f j) → Residues b acc
+      subtracted-room b most acc n h i = elim (decLt i (C + 1)) [
+        | yes l ↦ omega (arith, h i (omega arith), w .sums i (omega arith), small q i (w .within) (omega arith))
+        | no l ↦ rw (at-past acc i (omega arith)) (omega arith)
+      ]
 
       module _ (l : q < C) where
-        pub tail-zero : at (rowTail C store begin q) 0 ≡ 0 → (j : ℕ) → at (rowTail C store begin q) j ≡ 0
-        tail-zero z j =
-            let first : cells C store q (q + 0) ≡ 0 = sym (tail-at C store q q begin (ready .places) l (le-of-lt l) (w .begins) 0 (omega arith)) ∙ z in
-            let zeros = row-zero p C (cells C store) (ready .reduced) q l (ap (cells C store q) (sym (add-zero q)) ∙ first) in
-            elim (decLt j (C + 1 - q)) [
-              | yes k ↦ tail-at C store q q begin (ready .places) l (le-of-lt l) (w .begins) j k ∙ zeros (q + j) (omega arith)
-              | no k ↦ at-past (rowTail C store begin q) j (rw (tail-length C store q q begin (ready .places) l (le-of-lt l) (w .begins)) (omega arith))
-            ]
+        -- what is added of row q at place j
+        abbrev pub less : ℕ → ℕ
+        less j = (p - at e q) % p * cells C store q j
 
-        pub subtracted-next : (ys : List ℕ) → ys ≡ plusTimes ((p - at e q) % p) (take (C + 1 - q) (drop q acc)) (rowTail C store begin q)
-            → Subtracted p C store e (q + 1) (begin + (C + 1)) (take q acc ++ (ys ++ drop (C + 1 - q) (drop q acc)))
-        subtracted-next ys h =
+        pub subtracted-next : (f′ : ℕ → ℕ) → ((j : ℕ) → j ≤ C → f′ j ≡ f j + less j) → Subtracted p C store e (q + 1) (begin + (C + 1)) f′
+        unfolding deferred
+        subtracted-next f′ h =
             record {
               within = omega arith;
               begins = omega (arith, w .begins);
-              list =
-                  is-tab (take q acc ++ (ys ++ drop (C + 1 - q) (drop q acc))) (C + 1) (deferred p (cells C store) (at e) (q + 1)) 0
-                  (pasted-length acc q (C + 1 - q) ys room count ∙ subtracted-length w)
-                  (λ j k. elim (decLt j q) [
-                    | yes b ↦
-                        pasted-before acc q (C + 1 - q) ys room count j b ∙ before j k
-                        ∙ omega (arith, deferred-next q j, mul-zero ((p - at e q) % p), ap (λ (x : ℕ). (p - at e q) % p * x) (left-zero p C (cells C store) (ready .reduced) q j l b))
-                    | no b ↦
-                        let i : q + (j - q) ≡ j = omega arith in
-                        ap (at (take q acc ++ (ys ++ drop (C + 1 - q) (drop q acc)))) (sym i)
-                        ∙ pasted-within acc q (C + 1 - q) ys room count (j - q) (omega arith)
-                        ∙ place (j - q) (omega arith)
-                        ∙ ap₂ (λ (a b : ℕ). at acc a + (p - at e q) % p * cells C store q b) i i
-                        ∙ ap (λ (x : ℕ). x + (p - at e q) % p * cells C store q j) (before j k)
-                        ∙ sym (deferred-next q j)
-                  ]);
+              sums = λ j k. omega (arith, h j k, w .sums j k, sum-next (λ q. (p - at e q) % p * cells C store q j) q);
             }
-          where
-            room : q + (C + 1 - q) ≤ length acc
-            room = omega (arith, subtracted-length w)
 
-            cut : length (take (C + 1 - q) (drop q acc)) ≡ C + 1 - q
-            cut = part-length acc q (C + 1 - q) room
+        module _ (g : ℕ) (eg : g ≡ factor p (at e q) (at store (begin + q))) where
+          times : (j : ℕ) → j ≤ C → g * cells C store q j ≡ less j
+          unfolding factor
+          times j k = elim (ℕ-discrete (cells C store q q) 0) [
+            | yes z ↦ rw (row-zero p C (cells C store) (ready .reduced) q l z j k, mul-zero g) (sym (mul-zero ((p - at e q) % p)))
+            | no d ↦ ap (λ (n : ℕ). n * cells C store q j) (eg ∙ rw (w .begins, ne-eqb (cells C store q q) 0 d))
+          ]
+
+          pub factor-small : (j : ℕ) → g * at (rowTail C store begin q) j ≤ p * p
+          unfolding factor
+          factor-small j = mul-le-mul low (le-of-lt (tail-residues C store q q begin (ready .places) l (le-of-lt l) (w .begins) p pos (λ j k. ready .reduced .residues q j l k) j))
+            where
+              none-or : (b : Bool) (x : ℕ) → x < p → cond b 0 x ≤ p
+              none-or true x h = omega arith
+              none-or false x h = le-of-lt h
+
+              low : g ≤ p
+              low = rw eg (none-or (eqb (at store (begin + q)) 0) ((p - at e q) % p) (mod-lt (p - at e q) pos))
+
+          module _ (xs ys : List ℕ) (n : length xs ≡ C + 1) (h : ys ≡ plusTimes g (take (C + 1 - q) (drop q xs)) (rowTail C store begin q)) where
+            room : q + (C + 1 - q) ≤ length xs
+            room = omega (arith, n)
+
+            cut : length (take (C + 1 - q) (drop q xs)) ≡ C + 1 - q
+            cut = part-length xs q (C + 1 - q) room
 
             count : length ys ≡ C + 1 - q
             count =
                 ap length h
-                ∙ tab-length (length (take (C + 1 - q) (drop q acc))) (λ j. at (take (C + 1 - q) (drop q acc)) j + (p - at e q) % p * at (rowTail C store begin q) j)
+                ∙ tab-length (length (take (C + 1 - q) (drop q xs))) (λ j. at (take (C + 1 - q) (drop q xs)) j + g * at (rowTail C store begin q) j)
                 ∙ cut
 
-            before : (j : ℕ) → j < C + 1 → at acc j ≡ deferred p (cells C store) (at e) q j
-            before j k = ap (λ (xs : List ℕ). at xs j) (w .list) ∙ tab-at (C + 1) (deferred p (cells C store) (at e) q) 0 j k
-
-            place : (i : ℕ) → i < C + 1 - q → at ys i ≡ at acc (q + i) + (p - at e q) % p * cells C store q (q + i)
+            place : (i : ℕ) → i < C + 1 - q → at ys i ≡ at xs (q + i) + g * cells C store q (q + i)
             place i k =
                 ap (λ (xs : List ℕ). at xs i) h
-                ∙ tab-at (length (take (C + 1 - q) (drop q acc))) (λ j. at (take (C + 1 - q) (drop q acc)) j + (p - at e q) % p * at (rowTail C store begin q) j) 0 i (rw cut k)
-                ∙ ap₂ (λ (a b : ℕ). a + (p - at e q) % p * b) (part-at acc q (C + 1 - q) i k)
+                ∙ tab-at (length (take (C + 1 - q) (drop q xs))) (λ j. at (take (C + 1 - q) (drop q xs)) j + g * at (rowTail C store begin q) j) 0 i (rw cut k)
+                ∙ ap₂ (λ (a b : ℕ). a + g * b) (part-at xs q (C + 1 - q) i k)
                 (tail-at C store q q begin (ready .places) l (le-of-lt l) (w .begins) i k)
+
+            pub added-length : length (take q xs ++ (ys ++ drop (C + 1 - q) (drop q xs))) ≡ C + 1
+            added-length = pasted-length xs q (C + 1 - q) ys room count ∙ n
+
+            pub added : (j : ℕ) → j ≤ C → at (take q xs ++ (ys ++ drop (C + 1 - q) (drop q xs))) j ≡ at xs j + less j
+            added j k = elim (decLt j q) [
+              | yes b ↦
+                  pasted-before xs q (C + 1 - q) ys room count j b
+                  ∙ omega (arith, mul-zero ((p - at e q) % p), ap (λ (x : ℕ). (p - at e q) % p * x) (left-zero p C (cells C store) (ready .reduced) q j l b))
+              | no b ↦
+                  let i : q + (j - q) ≡ j = omega arith in
+                  ap (at (take q xs ++ (ys ++ drop (C + 1 - q) (drop q xs)))) (sym i)
+                  ∙ pasted-within xs q (C + 1 - q) ys room count (j - q) (omega arith)
+                  ∙ place (j - q) (omega arith)
+                  ∙ ap₂ (λ (a b : ℕ). at xs a + g * cells C store q b) i i
+                  ∙ ap (λ (x : ℕ). at xs j + x) (times j k)
+            ]
+
+-- the sums in two lists, the second of 16 bits with room for left rows
+pub record Held (p C : ℕ) (store e : List ℕ) (q begin left : ℕ) (acc short : List ℕ) : Type 0 where
+  pub both : Subtracted p C store e q begin (λ j. at acc j + at short j)
+  pub wide : length acc ≡ C + 1
+  pub narrow : length short ≡ C + 1
+  pub room : (j : ℕ) → at short j + left * (p * p) < 65536
+
+-- as many rows as 16 bits have room for
+pub rows-fit : (p : ℕ) → Modulus p → (0 < 65535 / (p * p)) × (65535 / (p * p) * (p * p) < 65536)
+rows-fit p m =
+    let low : 2 * 2 ≤ p * p = mul-le-mul (m .0) (m .0) in
+    let high : p * p ≤ 251 * 251 = mul-le-mul (m .1) (m .1) in
+    let pos : 0 < p * p = omega arith in (
+      pos-of-ne-zero (λ z. omega (arith, lt-div-mul-add {a = 65535} pos, ap (λ (n : ℕ). n * (p * p)) z)),
+      omega (arith, div-mul-le-self 65535 (p * p)),
+    )
+
+module _ (p C : ℕ) (store e : List ℕ) where
+  pub held-none : (acc acc′ short : List ℕ) (rows : ℕ) → acc ≡ tab (C + 1) (λ _. 0) → acc′ ≡ plusTimes 1 acc e → short ≡ tab (C + 1) (λ _. 0)
+      → rows * (p * p) < 65536 → Held p C store e 0 0 rows acc′ short
+  held-none acc acc′ short rows za h z fits =
+      let s = subtracted-none p C store e acc acc′ za h in
+      record {
+        both = record { within = omega arith; begins = omega arith; sums = λ j l. omega (arith, zeros-at (C + 1) short z j, s .0 .sums j l) };
+        wide = s .1;
+        narrow = ap length z ∙ tab-length (C + 1) (λ _. 0);
+        room = λ j. omega (arith, zeros-at (C + 1) short z j);
+      }
+
+  module _ {q begin left : ℕ} {acc short : List ℕ} (w : Held p C store e q begin left acc short) where
+    pub poured-at : (j : ℕ) → j ≤ C → at (plusTimes 1 acc short) j ≡ at acc j + at short j
+    poured-at j l = tab-at (length acc) (λ j. at acc j + 1 * at short j) 0 j (rw (w .wide) (omega arith)) ∙ omega arith
+
+    poured-length : length (plusTimes 1 acc short) ≡ C + 1
+    poured-length = tab-length (length acc) (λ j. at acc j + 1 * at short j) ∙ w .wide
+
+    pub held-room : (rows : ℕ) (acc′ short′ : List ℕ) (r : ℕ) → 0 < rows → rows * (p * p) < 65536 → Poured acc short left rows acc′ short′ r
+        → Held p C store e q begin r acc′ short′ × (0 < r)
+    held-room rows acc′ short′ r some fits h = ⊎-elim
+        (λ a. (rw (a .1, a .2, a .3) w, rw (a .1) (a .0)))
+        (λ a. (
+          record {
+            both = record {
+              within = w .both .within;
+              begins = w .both .begins;
+              sums = λ j l. ap (λ (xs : List ℕ). at xs j + at short′ j) (a .1) ∙ omega (arith, poured-at j l, zeros-at (length short) short′ (a .2) j, w .both .sums j l);
+            };
+            wide = ap length (a .1) ∙ poured-length;
+            narrow = ap length (a .2) ∙ tab-length (length short) (λ _. 0) ∙ w .narrow;
+            room = λ j. rw (a .0) (omega (arith, zeros-at (length short) short′ (a .2) j));
+          },
+          rw (a .0) some,
+        ))
+        h
+
+    pub held-all : C ≤ q → (acc′ : List ℕ) → acc′ ≡ plusTimes 1 acc short → acc′ ≡ tab (C + 1) (deferred p (cells C store) (at e) C)
+    held-all h acc′ k =
+        subtracted-all p C store e (w .both) h (ap length k ∙ poured-length) (λ j l. ap (λ (xs : List ℕ). at xs j) k ∙ poured-at j l)
+
+    module _ (ready : Ready p C store) (line : Line p C e) where
+      pub held-small : Residues 4294901761 acc
+      held-small = subtracted-room p C store e ready line (w .both) 4294901761 (omega arith) acc (w .wide) (λ j l. omega arith)
+
+      module _ (l : q < C) (g : ℕ) (eg : g ≡ factor p (at e q) (at store (begin + q))) (some : 0 < left) where
+        product : (j : ℕ) → g * at (rowTail C store begin q) j ≤ p * p
+        product = factor-small p C store e ready line (w .both) l g eg
+
+        less-room : p * p ≤ left * (p * p)
+        less-room = omega (arith, mul-le-mul-right (p * p) some)
+
+        pub held-fits : (j : ℕ) → at (take (C + 1 - q) (drop q short)) j + g * at (rowTail C store begin q) j < 65536
+        held-fits j = elim (decLt j (C + 1 - q)) [
+          | yes k ↦ omega (arith, part-at short q (C + 1 - q) j k, w .room (q + j), product j, less-room)
+          | no k ↦ omega (arith, at-past (take (C + 1 - q) (drop q short)) j (rw length-take (omega arith)), w .room 0, product j, less-room)
+        ]
+
+        pub held-next : (ys : List ℕ) → ys ≡ plusTimes g (take (C + 1 - q) (drop q short)) (rowTail C store begin q)
+            → Held p C store e (q + 1) (begin + (C + 1)) (left - 1) acc (take q short ++ (ys ++ drop (C + 1 - q) (drop q short)))
+        held-next ys h =
+            record {
+              both = subtracted-next p C store e ready line (w .both) l (λ j. at acc j + at short′ j) (λ j k. omega (arith, sum j k));
+              wide = w .wide;
+              narrow = added-length p C store e ready line (w .both) l g eg short ys (w .narrow) h;
+              room = λ j. elim (decLt j (C + 1)) [
+                | yes k ↦ omega (arith, sum j (omega arith), w .room j, small j (omega arith), one-less)
+                | no k ↦ omega (arith, at-past short′ j (omega (arith, added-length p C store e ready line (w .both) l g eg short ys (w .narrow) h)), w .room 0, one-less)
+              ];
+            }
+          where
+            short′ : List ℕ
+            short′ = take q short ++ (ys ++ drop (C + 1 - q) (drop q short))
+
+            one-less : (left - 1) * (p * p) + p * p ≡ left * (p * p)
+            one-less = let k : left - 1 + 1 ≡ left = omega arith in omega (arith, ap (λ (n : ℕ). n * (p * p)) k)
+
+            small : (j : ℕ) → j ≤ C → (p - at e q) % p * cells C store q j ≤ p * p
+            small j k = mul-le-mul (le-of-lt (mod-lt (p - at e q) (omega (arith, ready .modulus .0)))) (le-of-lt (ready .reduced .residues q j l k))
+
+            sum : (j : ℕ) → j ≤ C → at short′ j ≡ at short j + less p C store e ready line (w .both) l j
+            sum j k = added p C store e ready line (w .both) l g eg short ys (w .narrow) h j k
 
 pub reduced-sums : (p C : ℕ) (S : ℕ → ℕ → ℕ) (e : ℕ → ℕ) (acc : List ℕ) → acc ≡ tab (C + 1) (deferred p S e C)
     → remainders p acc ≡ tab (C + 1) (residual p C S e)

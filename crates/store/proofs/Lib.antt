@@ -15,7 +15,6 @@ pub mod Uniqueness
 pub mod Filings
 pub mod Zeros
 pub mod Pasting
-pub mod Passing
 pub mod OneReading
 pub mod Multiples
 pub mod Deferring

@@ -1,24 +1,17 @@
--- The test of reduced form in one reading of the store: a state goes in with each row and comes out, and sees no row again. The state is
--- the maximum of each column over the rows passed.
---     top f n                the largest of f 0, .., f (n - 1), and 0 where there is none
---     rowFits q seen row     row q fits under the rows passed, whose columns have the maxima seen: it is all zero, or its first nonzero
---                            coefficient is a 1 in column q and no row passed has anything in that column
---     rowsFit C S            each row of the store is all zero or has a pivot, as a test: reduced form but for the residues
-use mathlib.Core.Bool.{Bool, _&&_, _||_}
+-- The test of reduced form in one reading of the store, from the last row to the first: a state goes in with each row and comes out, and
+-- sees no row again. The state is what each column may hold at most.
+--     bound p d                 what the rows above a row with d on the diagonal may hold in its column: nothing over a pivot
+--     rowFits q bounds row      row q fits: with 0 on the diagonal it is all zero, else it is within the bounds, with 1 for the diagonal
+use mathlib.Core.Bool.{Bool, cond}
 use mathlib.Core.List.{List}
-use Prim.Native.Nat.{ℕ, zero, suc, max}
+use Prim.Native.Nat.{ℕ, _-_}
 use lib.Dec.{eqb}
-use lib.ListN.{length}
-use Rattle.lists.specs.Places.{every, at}
-use Rattle.store.specs.Elimination.{isZeroRow, isPivot}
+use lib.ListN.{set}
+use Rattle.lists.specs.Places.{at}
+use Rattle.field.specs.Rows.{allBelow, allWithin}
 
-unfoldable pub top : (ℕ → ℕ) → ℕ → ℕ
-top f zero = 0
-top f (suc n) = max (top f n) (f n)
+unfoldable pub bound : ℕ → ℕ → ℕ
+bound p d = cond (eqb d 0) (p - 1) 0
 
 unfoldable pub rowFits : ℕ → List ℕ → List ℕ → Bool
-rowFits q seen row =
-    every (λ j. eqb (at row j) 0) (length row) || (every (λ j. eqb (at row j) 0) q && (eqb (at row q) 1 && eqb (at seen q) 0))
-
-unfoldable pub rowsFit : ℕ → (ℕ → ℕ → ℕ) → Bool
-rowsFit C S = every (λ q. isZeroRow C S q || isPivot C S q) C
+rowFits q bounds row = cond (eqb (at row q) 0) (allBelow 1 row) (allWithin (set bounds q 1) row)

@@ -1,14 +1,15 @@
 // Filing an equation into a store in reduced form.
 ghost use mathlib.Core.Path.{_≡_};
-ghost use Prim.Native.Nat.{ℕ, _+_, _-_, _*_, _%_, _≤_, _<_};
+ghost use Prim.Native.Nat.{ℕ, _+_, _-_, _*_, _≤_, _<_};
 ghost use lib.ListN.{length};
 ghost use Rattle.lists.specs.Places.{tab, at};
 ghost use Rattle.field.specs.Residues.{Modulus, Residues};
-ghost use Rattle.field.specs.Rows.{plusTimes, plusMultiple};
+ghost use Rattle.field.specs.Rows.{plusMultiple};
 ghost use Rattle.plan.specs.Numbers.{Within, columns};
 ghost use Rattle.plan.specs.Parts.{Lent};
 ghost use Rattle.store.specs.Elimination as specs;
 ghost use Rattle.store.specs.Elimination.{cells, flat};
+ghost use Rattle.store.specs.Stages as stages;
 ghost use Rattle.store.specs.Stages.{Ready, Line, deferred, cleared};
 ghost use Rattle.store.specs.Calls as calls;
 use plan::Plan;
@@ -20,25 +21,22 @@ pub enum Filed {
     Refused(u8),
 }
 
-// acc less f times a row, both from the row's own column on: f's negative times the row is added. A row that begins with 0 is zero.
-fn subtract_row(acc: &mut [u32], row: &[u8], f: u8, p: u8)
+// The factor by which a row is added so that f times it is subtracted. A row that begins with 0 is zero, and nothing of it is added.
+fn factor(f: u8, first: u8, p: u8) -> u8
     requires { ⌜ f < p ⌝ }
-    requires { ⌜ (length (now row) ≡ length (now acc)) × (0 < length (now row)) ⌝ }
-    requires { ⌜ Residues 4294902271 (now acc) ⌝ }
-    requires { ⌜ (at (now row) 0 ≡ 0 → (j : ℕ) → at (now row) j ≡ 0) ⌝ }
-    ensures { λ _. ⌜ now (acc .exit) ≡ plusTimes ((p - f) % p) (now (acc .entry)) (now (row .entry)) ⌝ }
+    ensures { λ r. ⌜ r ≡ stages.factor p f first ⌝ }
 {
+    if first == 0 {
+        return 0;
+    }
     if f == 0 {
-        return;
+        return 0;
     }
-    if row[0] == 0 {
-        return;
-    }
-    field::accumulate(acc, row, p - f);
+    p - f
 }
 
-// The residual of e with nothing reduced yet: C products of two residues fit in 32 bits.
-fn defer(acc: &mut [u32], store: &[u8], e: &[u8], c: usize, p: u8)
+// The residual of e with nothing reduced yet: C products of two residues fit in 32 bits. Each row is added from its own column on.
+fn defer_wide(acc: &mut [u32], store: &[u8], e: &[u8], c: usize, p: u8)
     requires { ⌜ Ready p c (now store) ⌝ }
     requires { ⌜ Line p c (now e) ⌝ }
     requires { ⌜ now acc ≡ tab (c + 1) (λ _. 0) ⌝ }
@@ -51,10 +49,67 @@ fn defer(acc: &mut [u32], store: &[u8], e: &[u8], c: usize, p: u8)
     while q < c {
         let a = begin + q;
         let end = begin + width;
-        subtract_row(&mut acc[q..width], &store[a..end], e[q], p);
+        let g = factor(e[q], store[a], p);
+        field::accumulate(&mut acc[q..width], &store[a..end], g);
         begin = end;
         q += 1;
     }
+}
+
+// Where short has no room for a row more, it is poured into acc. Answers for how many rows there is room.
+fn make_room(acc: &mut [u32], short: &mut [u16], left: u32, rows: u32) -> u32
+    requires { ⌜ length (now short) ≡ length (now acc) ⌝ }
+    requires { ⌜ Residues 4294901761 (now acc) ⌝ }
+    ensures { λ r. ⌜ stages.Poured (now (acc .entry)) (now (short .entry)) left rows (now (acc .exit)) (now (short .exit)) r ⌝ }
+{
+    if 0 < left {
+        return left;
+    }
+    field::pour(acc, short);
+    rows
+}
+
+// The same for small p, where many rows fit in 16 bits: they are added there, and poured into acc before they could overflow.
+fn defer_short(acc: &mut [u32], short: &mut [u16], store: &[u8], e: &[u8], c: usize, p: u8)
+    requires { ⌜ Ready p c (now store) ⌝ }
+    requires { ⌜ Line p c (now e) ⌝ }
+    requires { ⌜ now acc ≡ tab (c + 1) (λ _. 0) ⌝ }
+    requires { ⌜ now short ≡ tab (c + 1) (λ _. 0) ⌝ }
+    ensures { λ _. ⌜ now (acc .exit) ≡ tab (c + 1) (deferred p (cells c (now (store .entry))) (at (now (e .entry))) c) ⌝ }
+{
+    field::accumulate(acc, e, 1);
+    let rows = 65535 / ((p as u32) * (p as u32));
+    let width = c + 1;
+    let mut left = rows;
+    let mut begin: usize = 0;
+    let mut q: usize = 0;
+    while q < c {
+        left = make_room(acc, short, left, rows);
+        let a = begin + q;
+        let end = begin + width;
+        let g = factor(e[q], store[a], p);
+        field::accumulate_short(&mut short[q..width], &store[a..end], g);
+        left -= 1;
+        begin = end;
+        q += 1;
+    }
+    field::pour(acc, short);
+}
+
+// The residual of e with nothing reduced yet.
+fn defer(acc: &mut [u32], store: &[u8], e: &[u8], c: usize, p: u8)
+    requires { ⌜ Ready p c (now store) ⌝ }
+    requires { ⌜ Line p c (now e) ⌝ }
+    requires { ⌜ now acc ≡ tab (c + 1) (λ _. 0) ⌝ }
+    ensures { λ _. ⌜ now (acc .exit) ≡ tab (c + 1) (deferred p (cells c (now (store .entry))) (at (now (e .entry))) c) ⌝ }
+{
+    if p < 128 {
+        let mut short = [0u16; 1025];
+        let width = c + 1;
+        defer_short(acc, &mut short[..width], store, e, c, p);
+        return;
+    }
+    defer_wide(acc, store, e, c, p);
 }
 
 // The residual of e, into out: all sums first, and one reduction.

@@ -1,12 +1,13 @@
 -- `field::rows::accumulate` meets its contract: an in-place loop (`Overwrite` of lists). What a turn reads is as at entry, so a product
 -- of two bytes more fits. Assumes nothing.
-use mathlib.Core.Path.{_≡_, refl, ap, _∙_}
-use Prim.Native.Nat.{ℕ, _+_, _-_, _*_, _≤_, _<_}
+use mathlib.Core.Path.{refl, ap}
+use Prim.Native.Nat.{ℕ, _+_, _-_, _*_, _≤_}
 use native.Mathlib.Nat.{le-refl, mul-le-mul}
 use native.Mathlib.Omega.{arith}
 use lib.ListN.{length}
 use Rattle.lists.specs.Places.{at}
 use Rattle.lists.proofs.Overwrite.{Written, written-none, written-next, unwritten, written-all}
+use Rattle.field.proofs.Ranges.{plus-none}
 use Rattle.field.proofs.rows.accumulate.Statement.{statement}
 use Rattle.field.proofs.rows.accumulate.Tie as tie
 
@@ -16,13 +17,16 @@ Inv-loop acc₀ ys g j₀ acc j = Written (length acc₀) (λ k. at acc₀ k + g
 abbrev μ-loop : tie.MeasureT-loop
 μ-loop acc₀ ys g j₀ acc j = length acc₀ - j
 
-term-small : (c : tie.After-shared-slice-known Inv-loop μ-loop) → c .before .before .before .before .args .g * at (c .before .before .before .before .args .ys .now) (c .before .before .before .loop .j) ≤ 255 * 255
+term-small : (c : tie.After-shared-slice-known Inv-loop μ-loop) → c .before .before .before .before .before .args .g * at (c .before .before .before .before .before .args .ys .now) (c .before .before .before .loop .j) ≤ 255 * 255
 term-small c =
-    let s = c .before .before .before .before in
+    let s = c .before .before .before .before .before in
     let j = c .before .before .before .loop .j in
     let a : s .args .g ≤ 255 = omega arith in
     let b : at (s .args .ys .now) j ≤ 255 = omega (arith, c .shared-slice-known .given j) in
     mul-le-mul a b
+
+returns : tie.Need-returns Inv-loop μ-loop
+returns c = plus-none _ _ (c .before .args .ys .now) (c .if1 .taken)
 
 loop-holds : tie.Need-loop-holds Inv-loop μ-loop
 loop-holds c = written-none _ _ _ refl
@@ -40,12 +44,10 @@ cast-acc : tie.Need-cast-acc Inv-loop μ-loop
 cast-acc c = omega (arith, c .shared-slice-known .given (c .before .before .before .loop .j))
 
 mul-acc-2 : tie.Need-mul-acc-2 Inv-loop μ-loop
-mul-acc-2 c = omega (arith, term-small c)
+mul-acc-2 c = omega (arith, term-small (c))
 
 add-acc : tie.Need-add-acc Inv-loop μ-loop
-add-acc c =
-    let j = c .before .before .before .loop .j in
-    omega (arith, term-small c, unwritten (c .before .before .before .loop .inv) j (le-refl j), c .before .before .before .before .pre .1 j)
+add-acc c = omega (arith, term-small (c), unwritten (c .before .before .before .loop .inv) (c .before .before .before .loop .j) (le-refl (c .before .before .before .loop .j)), c .before .before .before .before .before .pre .1 (c .before .before .before .loop .j))
 
 mul-acc-3 : tie.Need-mul-acc-3 Inv-loop μ-loop
 mul-acc-3 c = omega arith
@@ -62,14 +64,14 @@ loop-less c = omega arith
 loop-again : tie.Need-loop-again Inv-loop μ-loop
 loop-again c =
     let j = c .before .before .before .loop .j in
-    written-next (at (c .before .before .before .loop .acc) j + c .before .before .before .before .args .g * at (c .before .before .before .before .args .ys .now) j) (c .before .before .before .loop .inv) (omega arith)
-    (ap (λ (x : ℕ). x + c .before .before .before .before .args .g * at (c .before .before .before .before .args .ys .now) j) (unwritten (c .before .before .before .loop .inv) j (le-refl j)))
+    written-next (at (c .before .before .before .loop .acc) j + c .before .before .before .before .before .args .g * at (c .before .before .before .before .before .args .ys .now) j) (c .before .before .before .loop .inv) (omega arith)
+    (ap (λ (x : ℕ). x + c .before .before .before .before .before .args .g * at (c .before .before .before .before .before .args .ys .now) j) (unwritten (c .before .before .before .loop .inv) j (le-refl j)))
 
 same-length : tie.Need-same-length Inv-loop μ-loop
 same-length c = c .before .loop .inv .same
 
-returns : tie.Need-returns Inv-loop μ-loop
-returns c = written-all (c .before .loop .inv) (omega arith)
+returns-2 : tie.Need-returns-2 Inv-loop μ-loop
+returns-2 c = written-all (c .before .loop .inv) (omega arith)
 
 pub accumulate-spec : {M : Type 1} → statement M
 accumulate-spec =
@@ -77,6 +79,7 @@ accumulate-spec =
     (tie.spec
     Inv-loop
     μ-loop
+    returns
     loop-holds
     mul-acc
     slice-read-acc
@@ -90,4 +93,4 @@ accumulate-spec =
     loop-less
     loop-again
     same-length
-    returns)
+    returns-2)

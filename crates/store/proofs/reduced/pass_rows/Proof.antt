@@ -1,28 +1,40 @@
--- `store::reduced::pass_rows` meets its contract: the rows are passed in turn (`OneReading`). Assumes nothing.
+-- `store::reduced::pass_rows` meets its contract: the rows are tested in turn (`OneReading`). Assumes nothing.
 use mathlib.Core.Path.{sym, ap, _∙_}
-use mathlib.Core.Bool.{true, false≢true}
-use Prim.Native.Nat.{_-_}
+use Prim.Native.Nat.{ℕ, _+_}
 use native.Mathlib.Omega.{arith}
 use lib.ListN.{length}
 use borrow.Author.Tests.{not-true, not-false}
-use Rattle.store.proofs.OneReading.{Passed, passed-none, passed-length, passed-next, passed-not, passed-all, row-end, row-length}
+use Rattle.lists.proofs.Tabs.{tab-length}
+use Rattle.store.proofs.OneReading.{Passed, passed-none, passed-next, passed-not, passed-all, passed-length, row-begin, row-end, row-length}
 use Rattle.store.proofs.reduced.pass_rows.Statement.{statement}
 use Rattle.store.proofs.reduced.pass_rows.Tie as tie
 
 abbrev Inv-loop : tie.InvT-loop
-Inv-loop seen₀ store c width begin₀ q₀ seen begin q = Passed c store q begin seen
+Inv-loop bounds₀ store c p width begin₀ q₀ bounds begin q = Passed p c store q begin bounds
 
 abbrev μ-loop : tie.MeasureT-loop
-μ-loop seen₀ store c width begin₀ q₀ seen begin q = c - q
+μ-loop bounds₀ store c p width begin₀ q₀ bounds begin q = q
+
+sub-bounds : tie.Need-sub-bounds Inv-loop μ-loop
+sub-bounds c = omega arith
+
+slice-write-bounds : tie.Need-slice-write-bounds Inv-loop μ-loop
+slice-write-bounds c = omega (arith, ap length (c .before .before .pre .1 .1 .1), tab-length {A = ℕ} (c .before .before .args .c + 1) (λ _. 0))
 
 add-width : tie.Need-add-width Inv-loop μ-loop
 add-width c = omega arith
 
-loop-holds : tie.Need-loop-holds Inv-loop μ-loop
-loop-holds c = passed-none _ _ _ (c .before .before .pre .1 .1)
+mul-begin : tie.Need-mul-begin Inv-loop μ-loop
+mul-begin c = omega (arith, c .before .before .pre .1 .1 .0)
 
-add-end : tie.Need-add-end Inv-loop μ-loop
-add-end c = omega (arith, row-end (c .before .before .before .before .args .c) (c .before .before .before .before .args .store .now) (c .before .loop .q) (c .before .loop .begin) (c .before .before .before .before .pre .1 .0) (c .loop-test .taken) (c .before .loop .inv .begins))
+loop-holds : tie.Need-loop-holds Inv-loop μ-loop
+loop-holds c = passed-none _ _ _ (c .before .before .pre .1 .0 .0) (c .before .before .pre .1 .1 .0) _ (c .before .before .pre .1 .1 .1)
+
+sub-begin : tie.Need-sub-begin Inv-loop μ-loop
+sub-begin c = row-begin _ _ _ (c .before .before .before .before .pre .1 .0 .0) (c .before .before .before .before .pre .1 .1 .0) (c .before .loop .inv) (c .loop-test .taken)
+
+sub-q : tie.Need-sub-q Inv-loop μ-loop
+sub-q c = omega arith
 
 sub-pass-row : tie.Need-sub-pass-row Inv-loop μ-loop
 sub-pass-row c = omega arith
@@ -31,37 +43,30 @@ part-pass-row-start : tie.Need-part-pass-row-start Inv-loop μ-loop
 part-pass-row-start c = omega arith
 
 part-pass-row-end : tie.Need-part-pass-row-end Inv-loop μ-loop
-part-pass-row-end c = row-end (c .before .before .before .before .before .args .c) (c .before .before .before .before .before .args .store .now) (c .before .before .loop .q) (c .before .before .loop .begin) (c .before .before .before .before .before .pre .1 .0) (c .before .loop-test .taken) (c .before .before .loop .inv .begins)
+part-pass-row-end c = row-end _ _ _ (c .before .before .before .before .before .pre .1 .0 .0) (c .before .before .before .before .before .pre .1 .1 .0) (c .before .before .loop .inv) (c .before .loop-test .taken)
 
 pass-row-requires : tie.Need-pass-row-requires Inv-loop μ-loop
 pass-row-requires c κs =
-    let e = row-length (c .before .before .before .before .before .before .args .c) (c .before .before .before .before .before .before .args .store .now) (c .before .before .before .loop .q) (c .before .before .before .loop .begin) (c .before .before .before .before .before .before .pre .1 .0) (c .before .before .loop-test .taken) (c .before .before .before .loop .inv .begins) in
-    (e ∙ sym (passed-length (c .before .before .before .loop .inv)), omega (arith, e))
+    let e = row-length _ _ _ (c .before .before .before .before .before .before .pre .1 .0 .0) (c .before .before .before .before .before .before .pre .1 .1 .0) (c .before .before .before .loop .inv) (c .before .before .loop-test .taken) in
+    (e ∙ sym (c .before .before .before .loop .inv .places), (omega (arith, e, c .before .before .before .loop .inv .within), c .before .before .before .before .before .before .pre .1 .0))
 
 same-length : tie.Need-same-length Inv-loop μ-loop
-same-length c = ap length (rw (not-true (c .before .before .before .pass-row .result) (c .if1 .taken)) at (c .before .before .before .pass-row .ensures .1)) ∙ passed-length (c .before .before .before .before .before .before .before .loop .inv) ∙ sym (passed-length (passed-none _ (c .before .before .before .before .before .before .before .before .before .before .args .store .now) _ (c .before .before .before .before .before .before .before .before .before .before .pre .1 .1)))
+same-length c = passed-length _ _ _ (c .before .before .before .before .before .before .before .before .before .before .pre .1 .0 .0) (c .before .before .before .before .before .before .before .before .before .before .pre .1 .1 .0) (c .before .before .before .before .before .before .before .loop .inv) (c .before .before .before .before .before .before .loop-test .taken) _ _ (c .before .before .before .pass-row .ensures .1) ∙ sym (ap length (c .before .before .before .before .before .before .before .before .before .before .pre .1 .1 .1) ∙ tab-length _ _)
 
 returns : tie.Need-returns Inv-loop μ-loop
-returns c = (passed-not (c .before .before .before .before .before .before .before .loop .inv) (c .before .before .before .before .before .before .before .before .before .before .pre .1 .0) (c .before .before .before .before .before .before .loop-test .taken) (sym (c .before .before .before .pass-row .ensures .0) ∙ not-true _ (c .if1 .taken)), λ e. absurd (false≢true e))
-
-add-q : tie.Need-add-q Inv-loop μ-loop
-add-q c = omega arith
+returns c = passed-not _ _ _ (c .before .before .before .before .before .before .before .before .before .before .pre .1 .0 .0) (c .before .before .before .before .before .before .before .before .before .before .pre .1 .1 .0) (c .before .before .before .before .before .before .before .loop .inv) (c .before .before .before .before .before .before .loop-test .taken) (sym (c .before .before .before .pass-row .ensures .0) ∙ not-true _ (c .if1 .taken))
 
 loop-less : tie.Need-loop-less Inv-loop μ-loop
 loop-less c = omega arith
 
 loop-again : tie.Need-loop-again Inv-loop μ-loop
-loop-again c =
-    let r = not-false (c .before .before .before .pass-row .result) (c .if1 .left) in
-    passed-next (c .before .before .before .before .before .before .before .loop .inv) (c .before .before .before .before .before .before .before .before .before .before .pre .1 .0) (c .before .before .before .before .before .before .loop-test .taken) _ (sym (c .before .before .before .pass-row .ensures .0) ∙ r) (rw r at (c .before .before .before .pass-row .ensures .1))
+loop-again c = passed-next _ _ _ (c .before .before .before .before .before .before .before .before .before .before .pre .1 .0 .0) (c .before .before .before .before .before .before .before .before .before .before .pre .1 .1 .0) (c .before .before .before .before .before .before .before .loop .inv) (c .before .before .before .before .before .before .loop-test .taken) (sym (c .before .before .before .pass-row .ensures .0) ∙ not-false _ (c .if1 .left)) _ (c .before .before .before .pass-row .ensures .1)
 
 same-length-2 : tie.Need-same-length-2 Inv-loop μ-loop
-same-length-2 c = passed-length (c .before .loop .inv) ∙ sym (passed-length (passed-none _ (c .before .before .before .before .args .store .now) _ (c .before .before .before .before .pre .1 .1)))
+same-length-2 c = c .before .loop .inv .places ∙ sym (ap length (c .before .before .before .before .pre .1 .1 .1) ∙ tab-length _ _)
 
 returns-2 : tie.Need-returns-2 Inv-loop μ-loop
-returns-2 c =
-    let r = passed-all (c .before .loop .inv) (c .loop-test .left) in
-    (r .0, λ _. r .1)
+returns-2 c = passed-all _ _ _ (c .before .before .before .before .pre .1 .0 .0) (c .before .before .before .before .pre .1 .1 .0) (c .before .loop .inv) (omega arith)
 
 pub pass-rows-spec : {M : Type 1} → statement M
 pass-rows-spec =
@@ -69,16 +74,19 @@ pass-rows-spec =
     (tie.spec
     Inv-loop
     μ-loop
+    sub-bounds
+    slice-write-bounds
     add-width
+    mul-begin
     loop-holds
-    add-end
+    sub-begin
+    sub-q
     sub-pass-row
     part-pass-row-start
     part-pass-row-end
     pass-row-requires
     same-length
     returns
-    add-q
     loop-less
     loop-again
     same-length-2

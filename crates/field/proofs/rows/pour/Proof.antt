@@ -1,0 +1,96 @@
+-- `field::rows::pour` meets its contract: a loop that writes two lists in place (`Overwrite` of lists). Assumes nothing.
+use mathlib.Core.Path.{refl, sym, ap₂, _∙_}
+use Prim.Native.Nat.{_+_, _-_, _*_}
+use native.Mathlib.Nat.{le-refl, one-mul}
+use native.Mathlib.Omega.{arith}
+use lib.ListN.{length}
+use Rattle.lists.specs.Places.{at}
+use Rattle.lists.proofs.Overwrite.{Written, written-none, written-next, unwritten, written-all}
+use Rattle.field.proofs.rows.pour.Statement.{statement}
+use Rattle.field.proofs.rows.pour.Tie as tie
+
+abbrev Inv-loop : tie.InvT-loop
+Inv-loop acc₀ short₀ j₀ acc short j = Written (length acc₀) (λ k. at acc₀ k + 1 * at short₀ k) acc₀ j acc × Written (length short₀) (λ _. 0) short₀ j short
+
+abbrev μ-loop : tie.MeasureT-loop
+μ-loop acc₀ short₀ j₀ acc short j = length acc₀ - j
+
+loop-holds : tie.Need-loop-holds Inv-loop μ-loop
+loop-holds c = (written-none _ _ _ refl, written-none _ _ _ refl)
+
+mul-acc : tie.Need-mul-acc Inv-loop μ-loop
+mul-acc c = omega arith
+
+slice-read-acc : tie.Need-slice-read-acc Inv-loop μ-loop
+slice-read-acc c = omega arith
+
+mul-acc-2 : tie.Need-mul-acc-2 Inv-loop μ-loop
+mul-acc-2 c = omega arith
+
+slice-read-acc-2 : tie.Need-slice-read-acc-2 Inv-loop μ-loop
+slice-read-acc-2 c = omega (arith, c .before .before .before .loop .inv .1 .same)
+
+cast-acc : tie.Need-cast-acc Inv-loop μ-loop
+cast-acc c = omega (arith, c .slice-known2 .given (c .before .before .before .loop .j))
+
+add-acc : tie.Need-add-acc Inv-loop μ-loop
+add-acc c = omega (arith, c .slice-known2 .given (c .before .before .before .loop .j), unwritten (c .before .before .before .loop .inv .0) (c .before .before .before .loop .j) (le-refl (c .before .before .before .loop .j)), c .before .before .before .before .pre .1 (c .before .before .before .loop .j))
+
+mul-acc-3 : tie.Need-mul-acc-3 Inv-loop μ-loop
+mul-acc-3 c = omega arith
+
+slice-write-acc : tie.Need-slice-write-acc Inv-loop μ-loop
+slice-write-acc c = omega arith
+
+mul-short : tie.Need-mul-short Inv-loop μ-loop
+mul-short c = omega arith
+
+slice-write-short : tie.Need-slice-write-short Inv-loop μ-loop
+slice-write-short c = omega (arith, c .before .before .before .loop .inv .1 .same)
+
+add-j : tie.Need-add-j Inv-loop μ-loop
+add-j c = omega arith
+
+loop-less : tie.Need-loop-less Inv-loop μ-loop
+loop-less c = omega arith
+
+loop-again : tie.Need-loop-again Inv-loop μ-loop
+loop-again c =
+    let j = c .before .before .before .loop .j in (
+      written-next (at (c .before .before .before .loop .acc) j + at (c .before .before .before .loop .short) j) (c .before .before .before .loop .inv .0) (omega arith)
+          (ap₂ _+_ (unwritten (c .before .before .before .loop .inv .0) j (le-refl j)) (unwritten (c .before .before .before .loop .inv .1) j (le-refl j) ∙ sym (one-mul (at (c .before .before .before .before .args .short .now) j)))),
+      written-next 0 (c .before .before .before .loop .inv .1) (omega arith) refl,
+    )
+
+same-length : tie.Need-same-length Inv-loop μ-loop
+same-length c = c .before .loop .inv .0 .same
+
+same-length-2 : tie.Need-same-length-2 Inv-loop μ-loop
+same-length-2 c = c .before .loop .inv .1 .same
+
+returns : tie.Need-returns Inv-loop μ-loop
+returns c = (written-all (c .before .loop .inv .0) (omega arith), written-all (c .before .loop .inv .1) (omega arith))
+
+pub pour-spec : {M : Type 1} → statement M
+pour-spec =
+    tie.close
+    (tie.spec
+    Inv-loop
+    μ-loop
+    loop-holds
+    mul-acc
+    slice-read-acc
+    mul-acc-2
+    slice-read-acc-2
+    cast-acc
+    add-acc
+    mul-acc-3
+    slice-write-acc
+    mul-short
+    slice-write-short
+    add-j
+    loop-less
+    loop-again
+    same-length
+    same-length-2
+    returns)

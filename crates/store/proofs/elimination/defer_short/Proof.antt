@@ -1,0 +1,183 @@
+-- `store::elimination::defer_short` meets its contract: row after row is subtracted from e, in 16 bits while there is room (`Deferring`).
+-- Assumes nothing.
+use mathlib.Core.Path.{sym, ap, _∙_}
+use Prim.Native.Nat.{_+_, _-_, _*_, _<_}
+use native.Mathlib.Nat.{le-of-lt, mul-le-mul}
+use native.Mathlib.Omega.{arith}
+use lib.ListN.{length}
+use Rattle.lists.proofs.Tabs.{tab-length}
+use Rattle.lists.proofs.Parts.{part-length}
+use Rattle.store.proofs.Pasting.{tail-end, tail-length}
+use Rattle.store.proofs.Deferring.{Held, zeros-at, rows-fit, held-none, held-room, held-small, held-fits, held-next, held-all}
+use Rattle.store.proofs.elimination.defer_short.Statement.{statement}
+use Rattle.store.proofs.elimination.defer_short.Tie as tie
+use Rattle.store.proofs.elimination.defer_short.Reads as reads
+use Rattle.store.proofs.elimination.defer_short.Lts as lts
+use Rattle.field.proofs.accumulate.Reads as accumulate-reads
+use Rattle.field.proofs.accumulate_short.Reads as accumulate-short-reads
+use Rattle.field.proofs.pour.Reads as pour-reads
+use Rattle.store.proofs.elimination.factor.Reads as factor-reads
+use Rattle.store.proofs.elimination.make_room.Reads as make-room-reads
+
+abbrev Inv-loop : tie.InvT-loop
+Inv-loop acc₀ short₀ store e c p rows width left₀ begin₀ q₀ acc short left begin q = Held p c store e q begin left acc short × (0 < rows) × (rows * (p * p) < 65536)
+
+abbrev μ-loop : tie.MeasureT-loop
+μ-loop acc₀ short₀ store e c p rows width left₀ begin₀ q₀ acc short left begin q = c - q
+
+-- src/elimination.rt:80:5
+-- the state when there is room for a row more
+held : (c : tie.After-make-room Inv-loop μ-loop) → Held (c .before .before .before .before .before .before .before .before .before .before .before .before .before .args .p) (c .before .before .before .before .before .before .before .before .before .before .before .before .before .args .c) (c .before .before .before .before .before .before .before .before .before .before .before .before .before .args .store .now) (c .before .before .before .before .before .before .before .before .before .before .before .before .before .args .e .now) (c .before .before .before .before .loop .q) (c .before .before .before .before .loop .begin) (c .make-room .result) (c .make-room .last .0) (c .make-room .last .1 .0) × (0 < c .make-room .result)
+held c = held-room _ _ _ _ (c .before .before .before .before .loop .inv .0) _ _ _ _ (c .before .before .before .before .loop .inv .1) (c .before .before .before .before .loop .inv .2) (c .make-room .ensures)
+
+accumulate-requires : tie.Need-accumulate-requires Inv-loop μ-loop
+accumulate-requires c κs =
+    let z = c .before .before .before .before .before .pre .1 .1 .0 in
+    (c .before .before .before .before .before .pre .1 .0 .places ∙ sym (ap length z ∙ tab-length (c .before .before .before .before .before .args .c + 1) (λ _. 0)), λ i. omega (arith, zeros-at (c .before .before .before .before .before .args .c + 1) _ z i))
+
+-- src/elimination.rt:81:25
+mul-rows : tie.Need-mul-rows Inv-loop μ-loop
+mul-rows c = omega (arith, mul-le-mul (c .before .before .before .before .before .before .before .before .pre .0 .modulus .1) (c .before .before .before .before .before .before .before .before .pre .0 .modulus .1))
+
+-- src/elimination.rt:81:16
+div-rows : tie.Need-div-rows Inv-loop μ-loop
+div-rows c = omega (arith, mul-le-mul (c .before .before .before .before .before .before .before .before .pre .0 .modulus .0) (c .before .before .before .before .before .before .before .before .pre .0 .modulus .0))
+
+-- src/elimination.rt:82:17
+add-width : tie.Need-add-width Inv-loop μ-loop
+add-width c = omega arith
+
+-- src/elimination.rt:86:5
+loop-holds : tie.Need-loop-holds Inv-loop μ-loop
+loop-holds c =
+    let r = rows-fit (c .before .before .before .before .before .before .before .before .args .p) (c .before .before .before .before .before .before .before .before .pre .0 .modulus) in
+    (held-none _ _ _ _ _ _ _ _ (c .before .before .before .before .before .before .before .before .pre .1 .1 .0) (c .before .before .accumulate .ensures) (c .before .before .before .before .before .before .before .before .pre .1 .1 .1) (r .1), r .0, r .1)
+
+-- src/elimination.rt:87:9
+make-room-requires : tie.Need-make-room-requires Inv-loop μ-loop
+make-room-requires c κs = (c .before .before .before .loop .inv .0 .narrow ∙ sym (c .before .before .before .loop .inv .0 .wide), held-small _ _ _ _ (c .before .before .before .loop .inv .0) (c .before .before .before .before .before .before .before .before .before .before .before .before .pre .0) (c .before .before .before .before .before .before .before .before .before .before .before .before .pre .1 .0))
+
+-- src/elimination.rt:88:17
+add-a : tie.Need-add-a Inv-loop μ-loop
+add-a c = omega (arith, tail-end (c .before .before .before .before .before .before .before .before .before .before .before .before .before .before .before .before .before .args .c) (c .before .before .before .before .before .before .before .before .before .before .before .before .before .before .before .before .before .args .store .now) (c .before .before .before .before .before .before .before .before .loop .q) (c .before .before .before .before .before .before .before .before .loop .q) (c .before .before .before .before .before .before .before .before .loop .begin) (c .before .before .before .before .before .before .before .before .before .before .before .before .before .before .before .before .before .pre .0 .places) (c .before .before .before .before .before .before .before .loop-test .taken) (le-of-lt (c .before .before .before .before .before .before .before .loop-test .taken)) (c .before .before .before .before .before .before .before .before .loop .inv .0 .both .begins))
+
+-- src/elimination.rt:89:19
+add-end : tie.Need-add-end Inv-loop μ-loop
+add-end c = omega (arith, tail-end (c .before .before .before .before .before .before .before .before .before .before .before .before .before .before .before .before .before .args .c) (c .before .before .before .before .before .before .before .before .before .before .before .before .before .before .before .before .before .args .store .now) (c .before .before .before .before .before .before .before .before .loop .q) (c .before .before .before .before .before .before .before .before .loop .q) (c .before .before .before .before .before .before .before .before .loop .begin) (c .before .before .before .before .before .before .before .before .before .before .before .before .before .before .before .before .before .pre .0 .places) (c .before .before .before .before .before .before .before .loop-test .taken) (le-of-lt (c .before .before .before .before .before .before .before .loop-test .taken)) (c .before .before .before .before .before .before .before .before .loop .inv .0 .both .begins))
+
+-- src/elimination.rt:90:24
+shared-slice-read-factor : tie.Need-shared-slice-read-factor Inv-loop μ-loop
+shared-slice-read-factor c = omega (arith, c .before .before .before .before .before .before .before .before .before .before .before .before .before .before .before .before .before .before .pre .1 .0 .places)
+
+-- src/elimination.rt:90:30
+shared-slice-read-factor-2 : tie.Need-shared-slice-read-factor-2 Inv-loop μ-loop
+shared-slice-read-factor-2 c = omega (arith, tail-end (c .before .before .before .before .before .before .before .before .before .before .before .before .before .before .before .before .before .before .before .args .c) (c .before .before .before .before .before .before .before .before .before .before .before .before .before .before .before .before .before .before .before .args .store .now) (c .before .before .before .before .before .before .before .before .before .before .loop .q) (c .before .before .before .before .before .before .before .before .before .before .loop .q) (c .before .before .before .before .before .before .before .before .before .before .loop .begin) (c .before .before .before .before .before .before .before .before .before .before .before .before .before .before .before .before .before .before .before .pre .0 .places) (c .before .before .before .before .before .before .before .before .before .loop-test .taken) (le-of-lt (c .before .before .before .before .before .before .before .before .before .loop-test .taken)) (c .before .before .before .before .before .before .before .before .before .before .loop .inv .0 .both .begins))
+
+-- src/elimination.rt:90:13
+factor-requires : tie.Need-factor-requires Inv-loop μ-loop
+factor-requires c κs = c .before .before .before .before .before .before .before .before .before .before .before .before .before .before .before .before .before .before .before .pre .1 .0 .residues (c .before .before .before .before .before .before .before .before .before .before .loop .q)
+
+-- src/elimination.rt:91:33
+mul-accumulate-short : tie.Need-mul-accumulate-short Inv-loop μ-loop
+mul-accumulate-short c = omega arith
+
+-- src/elimination.rt:91:33
+sub-accumulate-short : tie.Need-sub-accumulate-short Inv-loop μ-loop
+sub-accumulate-short c = omega arith
+
+-- src/elimination.rt:91:33
+part-accumulate-short-start : tie.Need-part-accumulate-short-start Inv-loop μ-loop
+part-accumulate-short-start c = omega arith
+
+-- src/elimination.rt:91:33
+part-accumulate-short-end : tie.Need-part-accumulate-short-end Inv-loop μ-loop
+part-accumulate-short-end c = omega (arith, held (c .before .before .before .before .before .before .before) .0 .narrow)
+
+-- src/elimination.rt:91:55
+sub-accumulate-short-2 : tie.Need-sub-accumulate-short-2 Inv-loop μ-loop
+sub-accumulate-short-2 c = omega arith
+
+-- src/elimination.rt:91:55
+part-accumulate-short-start-2 : tie.Need-part-accumulate-short-start-2 Inv-loop μ-loop
+part-accumulate-short-start-2 c = omega arith
+
+-- src/elimination.rt:91:55
+part-accumulate-short-end-2 : tie.Need-part-accumulate-short-end-2 Inv-loop μ-loop
+part-accumulate-short-end-2 c = tail-end (c .before .before .before .before .before .before .before .before .before .before .before .before .before .before .before .before .before .before .before .before .before .args .c) (c .before .before .before .before .before .before .before .before .before .before .before .before .before .before .before .before .before .before .before .before .before .args .store .now) (c .before .before .before .before .before .before .before .before .before .before .before .before .loop .q) (c .before .before .before .before .before .before .before .before .before .before .before .before .loop .q) (c .before .before .before .before .before .before .before .before .before .before .before .before .loop .begin) (c .before .before .before .before .before .before .before .before .before .before .before .before .before .before .before .before .before .before .before .before .before .pre .0 .places) (c .before .before .before .before .before .before .before .before .before .before .before .loop-test .taken) (le-of-lt (c .before .before .before .before .before .before .before .before .before .before .before .loop-test .taken)) (c .before .before .before .before .before .before .before .before .before .before .before .before .loop .inv .0 .both .begins)
+
+-- src/elimination.rt:91:9
+accumulate-short-requires : tie.Need-accumulate-short-requires Inv-loop μ-loop
+accumulate-short-requires c κs =
+    let w = held (c .before .before .before .before .before .before .before .before .before) in
+    let l = c .before .before .before .before .before .before .before .before .before .before .before .before .loop-test .taken in (
+      tail-length (c .before .before .before .before .before .before .before .before .before .before .before .before .before .before .before .before .before .before .before .before .before .before .args .c) (c .before .before .before .before .before .before .before .before .before .before .before .before .before .before .before .before .before .before .before .before .before .before .args .store .now) (c .before .before .before .before .before .before .before .before .before .before .before .before .before .loop .q) (c .before .before .before .before .before .before .before .before .before .before .before .before .before .loop .q) (c .before .before .before .before .before .before .before .before .before .before .before .before .before .loop .begin) (c .before .before .before .before .before .before .before .before .before .before .before .before .before .before .before .before .before .before .before .before .before .before .pre .0 .places) (c .before .before .before .before .before .before .before .before .before .before .before .before .loop-test .taken) (le-of-lt (c .before .before .before .before .before .before .before .before .before .before .before .before .loop-test .taken)) (c .before .before .before .before .before .before .before .before .before .before .before .before .before .loop .inv .0 .both .begins) ∙ sym (part-length _ (c .before .before .before .before .before .before .before .before .before .before .before .before .before .loop .q) (c .before .before .before .before .before .before .before .before .before .before .before .before .before .before .before .before .before .before .before .before .before .before .args .c + 1 - c .before .before .before .before .before .before .before .before .before .before .before .before .before .loop .q) (omega (arith, w .0 .narrow))),
+      held-fits _ _ _ _ (w .0) (c .before .before .before .before .before .before .before .before .before .before .before .before .before .before .before .before .before .before .before .before .before .before .pre .0) (c .before .before .before .before .before .before .before .before .before .before .before .before .before .before .before .before .before .before .before .before .before .before .pre .1 .0) l _ (c .before .before .factor .ensures) (w .1),
+    )
+
+-- src/elimination.rt:92:9
+sub-left : tie.Need-sub-left Inv-loop μ-loop
+sub-left c = omega (arith, held (c .before .before .before .before .before .before .before .before .before .before .before .before) .1)
+
+-- src/elimination.rt:94:9
+add-q : tie.Need-add-q Inv-loop μ-loop
+add-q c = omega arith
+
+-- src/elimination.rt:86:5
+loop-less : tie.Need-loop-less Inv-loop μ-loop
+loop-less c = omega arith
+
+-- src/elimination.rt:86:5
+loop-again : tie.Need-loop-again Inv-loop μ-loop
+loop-again c =
+    let w = held (c .before .before .before .before .before .before .before .before .before .before .before .before) in
+    (held-next _ _ _ _ (w .0) (c .before .before .before .before .before .before .before .before .before .before .before .before .before .before .before .before .before .before .before .before .before .before .before .before .before .pre .0) (c .before .before .before .before .before .before .before .before .before .before .before .before .before .before .before .before .before .before .before .before .before .before .before .before .before .pre .1 .0) (c .before .before .before .before .before .before .before .before .before .before .before .before .before .before .before .loop-test .taken) _ (c .before .before .before .before .before .factor .ensures) (w .1) _ (c .before .before .accumulate-short .ensures), c .before .before .before .before .before .before .before .before .before .before .before .before .before .before .before .before .loop .inv .1, c .before .before .before .before .before .before .before .before .before .before .before .before .before .before .before .before .loop .inv .2)
+
+-- src/elimination.rt:96:5
+pour-requires : tie.Need-pour-requires Inv-loop μ-loop
+pour-requires c κs = (c .before .before .before .loop .inv .0 .narrow ∙ sym (c .before .before .before .loop .inv .0 .wide), held-small _ _ _ _ (c .before .before .before .loop .inv .0) (c .before .before .before .before .before .before .before .before .before .before .before .before .pre .0) (c .before .before .before .before .before .before .before .before .before .before .before .before .pre .1 .0))
+
+-- src/elimination.rt:73:1
+same-length : tie.Need-same-length Inv-loop μ-loop
+same-length c = ap length (c .before .before .before .before .pour .ensures .0) ∙ tab-length _ _ ∙ c .before .before .before .before .before .before .before .before .loop .inv .0 .wide ∙ sym (ap length (c .before .before .before .before .before .before .before .before .before .before .before .before .before .before .before .before .before .pre .1 .1 .0) ∙ tab-length (c .before .before .before .before .before .before .before .before .before .before .before .before .before .before .before .before .before .args .c + 1) (λ _. 0))
+
+-- src/elimination.rt:73:1
+same-length-2 : tie.Need-same-length-2 Inv-loop μ-loop
+same-length-2 c = ap length (c .before .before .before .before .pour .ensures .1) ∙ tab-length _ _ ∙ c .before .before .before .before .before .before .before .before .loop .inv .0 .narrow ∙ sym (ap length (c .before .before .before .before .before .before .before .before .before .before .before .before .before .before .before .before .before .pre .1 .1 .1) ∙ tab-length (c .before .before .before .before .before .before .before .before .before .before .before .before .before .before .before .before .before .args .c + 1) (λ _. 0))
+
+-- src/elimination.rt:73:1
+returns : tie.Need-returns Inv-loop μ-loop
+returns c = held-all _ _ _ _ (c .before .before .before .before .before .before .before .before .loop .inv .0) (c .before .before .before .before .before .before .before .loop-test .left) _ (c .before .before .before .before .pour .ensures .0)
+
+pub defer-short-spec : {M : Type 1} → statement M
+defer-short-spec =
+    tie.close
+    (tie.spec
+    Inv-loop
+    μ-loop
+    accumulate-requires
+    mul-rows
+    div-rows
+    add-width
+    loop-holds
+    make-room-requires
+    add-a
+    add-end
+    shared-slice-read-factor
+    shared-slice-read-factor-2
+    factor-requires
+    mul-accumulate-short
+    sub-accumulate-short
+    part-accumulate-short-start
+    part-accumulate-short-end
+    sub-accumulate-short-2
+    part-accumulate-short-start-2
+    part-accumulate-short-end-2
+    accumulate-short-requires
+    sub-left
+    add-q
+    loop-less
+    loop-again
+    pour-requires
+    same-length
+    same-length-2
+    returns)
