@@ -2,7 +2,6 @@
 use mathlib.Core.Path.{_≡_, refl}
 use mathlib.Core.List.{List}
 use Prim.Native.Nat.{ℕ, zero, suc, _+_, _-_, _*_, _/_, _≤_}
-use native.Mathlib.Nat.{mul-le-mul}
 use native.Mathlib.Omega.{arith}
 use Rattle.plan.specs.Causes.{first}
 use Rattle.plan.specs.Numbers.{plan, Within}
@@ -10,7 +9,9 @@ use Rattle.plan.proofs.Refusals.{within-of, none-met}
 use Rattle.store.specs.declared.elimination.Filed.the-variants.{Implied}
 use Rattle.store.specs.Elimination.{Outcome}
 use Rattle.store.specs.Calls.{fileCauses, answered}
+use Rattle.program.specs.Layout.{stepCount}
 use Rattle.program.specs.Calls.{writeCauses}
+use Rattle.program.proofs.Shape.{step-limit}
 use Rattle.celerycrag.specs.Numbers.{lengthOf}
 
 passed : (k : ℕ) (o : Outcome) → answered k o ≡ Implied → k ≡ 0
@@ -27,12 +28,8 @@ unfolding writeCauses
 writes-within p s n m t w T d β steps e = within-of p s n m t (none-met p s n m t w T d _ _ e .0)
 
 pub step-count-small : {p s n m t : ℕ} → Within (plan p s n m t) → (k : ℕ) → k ≡ m * (n + 2) + m * (m - 1) / 2 + 1 + t * (2 * (n + m) + 12) + (n + m) → k ≤ 20000
-step-count-small {p} {s} {n} {m} {t} w k e =
-    let hm : m ≤ 64 = omega (arith, w .variable-limit) in
-    let hn : n + 2 ≤ 66 = omega (arith, w .variable-limit) in
-    let hm1 : m - 1 ≤ 64 = omega arith in
-    let hl : 2 * (n + m) + 12 ≤ 140 = omega (arith, w .variable-limit) in
-    omega (arith, mul-le-mul hm hn, mul-le-mul hm hm1, mul-le-mul (w .product-limit) hl, w .variable-limit)
+unfolding stepCount
+step-count-small {p} {s} {n} {m} {t} w k e = rw e (step-limit (plan p s n m t) w)
 
 pub lengthOf-refused : (k n old : ℕ) → (k ≡ 0 → ⊥) → lengthOf k n old ≡ old
 lengthOf-refused zero n old h = absurd (h refl)

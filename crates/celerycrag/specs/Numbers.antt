@@ -1,4 +1,6 @@
--- An answer that is an enum becomes 01's number, and what else it carries goes through a lent number, which a refusal leaves alone.
+-- An answer that is an enum becomes 01's number (`numberOf`, beside each answer), and what else it carries goes through a lent number,
+-- which a refusal leaves alone (01, "Turned down": "Returned" and "Left as it was"). Stands on the answers of `store`, `program` and
+-- `listing`.
 --     columnOf a C old         the pivot column of `New`; C, which is no column, of `Implied`; old, as it was, of a refusal
 --     outputOf a old           y of a run
 --     countOf a old            the number of bootstraps of a run
@@ -28,11 +30,6 @@ countOf (ran.Refused k) old = old
 abbrev pub normOf : Normed → ℕ → ℕ
 normOf (normed.Norm x) old = x
 normOf (normed.Refused k) old = old
-
--- 01's number for each case of that answer
-abbrev pub normNumber : Normed → ℕ
-normNumber (normed.Norm x) = 0
-normNumber (normed.Refused k) = k
 
 abbrev pub lengthOf : ℕ → ℕ → ℕ → ℕ
 lengthOf zero n old = n

@@ -1,7 +1,8 @@
 // The library for hosts: every call as a C function over the entry points below, with the prefix `celery_`.
 //
 // An answer is 01's number, 0 where the call is accepted; what else an answer carries goes through a lent number, which a refusal leaves
-// alone. include/celerycrag.h documents each call. Stands on `plan`, `store`, `program` and `listing`.
+// alone. include/celerycrag.h documents each call. Stands on `plan`, `store`, `program` and `listing`. Renders 01, "Turned down", for a
+// host: of causes 1 to 12 the number returned and what is left as it was, in the words of the contracts below.
 ghost use mathlib.Core.Path.{_≡_};
 ghost use mathlib.Core.Bool.{true};
 ghost use mathlib.Core.List.{[]};
@@ -218,7 +219,7 @@ pub extern "C" fn celery_worst_norm(
     beta: &[u8],
     norm: &mut usize,
 ) -> u8
-    ensures { λ r. ⌜ r ≡ specs.normNumber (norms.normed (first (norms.normCauses p s n m t (now (weights .entry)) (now (tables .entry)) (now (d .entry)) (now (beta .entry)))) (norms.worst (plan p s n m t) (now (weights .entry)) (now (d .entry)) (now (beta .entry)))) ⌝ }
+    ensures { λ r. ⌜ r ≡ norms.numberOf (norms.normed (first (norms.normCauses p s n m t (now (weights .entry)) (now (tables .entry)) (now (d .entry)) (now (beta .entry)))) (norms.worst (plan p s n m t) (now (weights .entry)) (now (d .entry)) (now (beta .entry)))) ⌝ }
     ensures { λ r. ⌜ now (norm .exit) ≡ specs.normOf (norms.normed (first (norms.normCauses p s n m t (now (weights .entry)) (now (tables .entry)) (now (d .entry)) (now (beta .entry)))) (norms.worst (plan p s n m t) (now (weights .entry)) (now (d .entry)) (now (beta .entry)))) (now (norm .entry)) ⌝ }
 {
     let a = listing::worst_norm(p, s, n, m, t, weights, tables, d, beta);

@@ -10,6 +10,7 @@ use native.Mathlib.Nat.{pos-of-ne-zero}
 use native.Mathlib.Omega.{arith}
 use lib.Dec.{eqb}
 use lib.ListN.{length}
+use Rattle.lists.specs.Places.{largest}
 use Rattle.field.specs.Rows.{allBelow}
 use Rattle.plan.specs.declared.numbers.Plan.{Plan}
 use Rattle.plan.specs.declared.numbers.Checked.the-variants as checks
@@ -18,7 +19,7 @@ use Rattle.plan.specs.Numbers.{variables, columns, plan, checked}
 use Rattle.plan.specs.Parts.{linkStart, partCauses}
 use Rattle.plan.proofs.Refusals.{call-plan, call-numbers, call-parts, call-passed}
 use Rattle.listing.specs.declared.norm.Normed.the-variants.{Norm, Refused}
-use Rattle.listing.specs.Norm.{largest, squares, worst, normCauses, normed}
+use Rattle.listing.specs.Norm.{squares, worst, normCauses, normed}
 
 pub norm-of : (P : Plan) (w d β : List ℕ) {l links products last rest r : ℕ} → l ≡ variables P
     → links ≡ largest (λ k. squares w (linkStart P k) (P .n + k)) (P .m)

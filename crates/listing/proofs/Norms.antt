@@ -1,28 +1,18 @@
--- The largest of a function's values, and the squares of a part.
---     largest-none, largest-turn     no value; one value more
---     part-squares                   the squares of a part that was cut out, in the form in which `squares` of the code leaves them
---     row-room                       row b of l weights lies within the rows
+-- The squares of a part, and where a row lies.
+--     part-squares     the squares of a part that was cut out, in the form in which `squares` of the code leaves them
+--     row-room         row b of l weights lies within the rows
 -- Assumes nothing.
-use mathlib.Core.Path.{_≡_, refl, sym, ap, ap₂, _∙_}
+use mathlib.Core.Path.{_≡_, ap}
 use mathlib.Core.List.{List}
-use Prim.Native.Nat.{ℕ, _+_, _-_, _*_, _≤_, _<_, max}
+use Prim.Native.Nat.{ℕ, _+_, _-_, _*_, _≤_, _<_}
 use native.Mathlib.Nat.{add-sub-cancel-left, mul-le-mul-right}
-use native.Mathlib.Numerals.{add-one}
 use native.Mathlib.Omega.{arith}
 use lib.ListN.{length, take, drop}
 use Rattle.lists.specs.Places.{at}
 use Rattle.lists.proofs.Sums.{sum-ext}
 use Rattle.lists.proofs.Parts.{part-at, cut-length}
 use Rattle.field.specs.Rows.{dot}
-use Rattle.listing.specs.Norm.{largest, squares}
-
-pub largest-none : (f : ℕ → ℕ) → 0 ≡ largest f 0
-unfolding largest
-largest-none f = refl
-
-pub largest-turn : (f : ℕ → ℕ) (k top v next : ℕ) → top ≡ largest f k → v ≡ f k → next ≡ max top v → next ≡ largest f (k + 1)
-unfolding largest
-largest-turn f k top v next ht hv hn = hn ∙ ap₂ max ht hv ∙ ap (largest f) (sym (add-one k))
+use Rattle.listing.specs.Norm.{squares}
 
 pub part-squares : (ws : List ℕ) (a l : ℕ) → a + l ≤ length ws
     → dot (take (a + l - a) (drop a ws)) (take (a + l - a) (drop a ws)) (length (take (a + l - a) (drop a ws))) ≡ squares ws a l

@@ -3,7 +3,6 @@
 --     small-steps      each number of the written program is below 1,000
 --     step-count       the number of its steps
 --     listing-as       the listing from what is written one after the other
---     listing-short, refused-short      a listing has at most 131,072 bytes, a refusal at most 64
 -- Assumes nothing.
 use mathlib.Core.Path.{_≡_, refl, sym, ap, ap₂, subst, _∙_}
 use mathlib.Core.Bool.{Bool, true, false, cond, _&&_}
@@ -13,7 +12,7 @@ use native.Mathlib.Decide.{decLt}
 use native.Mathlib.Nat.{mul-le-mul}
 use native.Mathlib.Omega.{arith}
 use lib.Dec.{eqb, ltb, leb}
-use lib.ListN.{length, length-append}
+use lib.ListN.{length}
 use borrow.Author.Tests.{leb-true, ltb-true, eqb-true}
 use Rattle.lists.specs.Places.{tab, every, joined, at}
 use Rattle.lists.proofs.Tests.{both-true, every-at}
@@ -30,8 +29,7 @@ use Rattle.program.specs.Layout.{layout, stepCount}
 use Rattle.program.proofs.Shape.{one-less, layout-length, layout-wellFormed}
 use Rattle.listing.specs.Norm.{worst}
 use Rattle.listing.specs.Decimal.{line}
-use Rattle.listing.specs.Printed.{figureNames, stepNames, stepLine, listing, refused}
-use Rattle.listing.proofs.Lines.{two-most, three-most, lines-room}
+use Rattle.listing.specs.Printed.{figureNames, stepNames, stepLine, listing}
 
 -- 2mn + m² is below L², and t(2L + 12) is below 2C + 12t
 pub few-steps : (P : Plan) → Within P → stepCount P ≤ 5000
@@ -130,15 +128,3 @@ listing-as P w d β steps count norm e hc hn =
     ∙ ap₂ (λ (x y : List ℕ). figureNames ++ (x ++ (stepNames ++ y)))
     (ap₂ (λ (a b : ℕ). line ((P .m + 2 * P .t) ∷ a ∷ b ∷ [])) hc hn)
     (ap (λ (xs : List ℕ). joined (stepLine xs) (length xs / 4)) e)
-
-pub listing-short : (P : Plan) (w d β : List ℕ) → Within P → length w ≡ linkStart P (P .m) → Residues (P .p) w → length d ≡ P .t * variables P → Residues (P .p) d → Residues (P .p) β
-    → length (listing P w d β) ≤ 131072
-unfolding listing
-listing-short P w d β within hw rw′ hd rd rβ =
-    let few : length (layout P w d β) / 4 ≤ 5000 = rw (step-count P w d β (layout P w d β) refl) (few-steps P within) in
-    let lines = lines-room (layout P w d β) (small-steps P w d β (layout P w d β) within hw rw′ hd rd rβ refl) (length (layout P w d β) / 4) in
-    simp length-append (omega (arith, few, lines, three-most (P .m + 2 * P .t) (stepCount P) (worst P w d β)))
-
-pub refused-short : (k j : ℕ) → length (refused k j) ≤ 64
-unfolding refused
-refused-short k j = simp length-append (omega (arith, two-most k j))

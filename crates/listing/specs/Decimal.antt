@@ -1,4 +1,6 @@
 -- Numbers and lines as bytes (01, "The filing program": "decimal numbers .. zero as `0` and otherwise no leading zero, one space between").
+-- Stands on the standard library alone.
+--     digitsOf most n  the decimal digits of n, at most `most` of them and one more
 --     decimal n        the decimal digits of n, which has at most 20 of them
 --     spaced ns        the numbers ns with one space between
 --     line ns          the same as a line, with its LF
@@ -7,7 +9,6 @@ use mathlib.Core.List.{List, [], _∷_, _++_}
 use Prim.Native.Nat.{ℕ, zero, suc, _+_, _/_, _%_}
 use lib.Dec.{ltb}
 
--- the digits of n, at most `most` of them and one more
 unfoldable pub digitsOf : ℕ → ℕ → List ℕ
 digitsOf zero n = (48 + n % 10) ∷ []
 digitsOf (suc most) n =

@@ -1,25 +1,22 @@
 -- 01, "Worst norm": "The largest sum of squares of weights, each 0 to p−1, over the link rows, the d rows and all t+1 β rows."
---     largest f n           the largest of f 0, .., f (n - 1); 0 where n is 0
+-- Stands on `plan`, and on `lists` for sums and the largest of numbers.
 --     squares ws from n     the sum of the squares of n places of ws, from place `from` on
 --     worst P w d β         the worst norm
 --     normCauses            the causes of the call: 1 2 3 4 5
 --     normed k x            its answer from its refusal k: `Norm` with the number, or `Refused` with 01's number
+--     numberOf a            01's number for each case of that answer, 0 where there is a norm
 use mathlib.Core.Bool.{Bool, not}
 use mathlib.Core.List.{List, [], _∷_}
 use Prim.Native.Nat.{ℕ, zero, suc, _+_, _*_, max}
 use lib.Dec.{eqb}
 use lib.ListN.{length}
-use Rattle.lists.specs.Places.{sum, at}
+use Rattle.lists.specs.Places.{sum, largest, at}
 use Rattle.field.specs.Rows.{allBelow}
 use Rattle.plan.specs.declared.numbers.Plan.{Plan}
 use Rattle.plan.specs.Numbers.{variables, columns}
 use Rattle.plan.specs.Parts.{linkStart, callCauses}
 use Rattle.listing.specs.declared.norm.Normed.{Normed}
 use Rattle.listing.specs.declared.norm.Normed.the-variants.{Norm, Refused}
-
-unfoldable pub largest : (ℕ → ℕ) → ℕ → ℕ
-largest f zero = 0
-largest f (suc n) = max (largest f n) (f n)
 
 unfoldable pub squares : List ℕ → ℕ → ℕ → ℕ
 squares ws from n = sum (λ j. at ws (from + j) * at ws (from + j)) n
@@ -37,3 +34,7 @@ normCauses p s n m t w T d β =
 unfoldable pub normed : ℕ → ℕ → Normed
 normed zero x = Norm x
 normed (suc k) x = Refused (suc k)
+
+abbrev pub numberOf : Normed → ℕ
+numberOf (Norm x) = 0
+numberOf (Refused k) = k

@@ -7,7 +7,7 @@ ghost use Rattle.lists.specs.Places.{placed};
 ghost use Rattle.listing.specs.Decimal.{decimal, line};
 
 // The digits of n: those of n / 10, and the last one.
-pub fn put_decimal(out: &mut [u8], at: usize, n: usize) -> usize
+fn put_decimal(out: &mut [u8], at: usize, n: usize) -> usize
     requires { ⌜ at + 20 ≤ length (now out) ⌝ }
     ensures { λ _. ⌜ now (out .exit) ≡ placed (now (out .entry)) at (decimal n) ⌝ }
     ensures { λ r. ⌜ r ≡ at + length (decimal n) ⌝ }
@@ -22,7 +22,7 @@ pub fn put_decimal(out: &mut [u8], at: usize, n: usize) -> usize
 }
 
 // The digits of n and the byte behind them.
-pub fn put_number(out: &mut [u8], at: usize, n: usize, byte: u8) -> usize
+fn put_number(out: &mut [u8], at: usize, n: usize, byte: u8) -> usize
     requires { ⌜ at + 21 ≤ length (now out) ⌝ }
     ensures { λ _. ⌜ now (out .exit) ≡ placed (now (out .entry)) at (decimal n ++ (byte ∷ [])) ⌝ }
     ensures { λ r. ⌜ r ≡ at + length (decimal n ++ (byte ∷ [])) ⌝ }

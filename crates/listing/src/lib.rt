@@ -1,14 +1,13 @@
 // The printed program: the worst norm, decimal numbers, and the listing.
 //
-// A host or a program calls `worst_norm`, which takes any numbers and bytes. Crates above call `worst`, `print_listing` and
-// `print_refusal`. Stands on `program` and `plan`. Renders 01, "Worst norm", and of "The filing program" what it prints.
+// A host or a program calls `worst_norm`, which takes any numbers and bytes. Crates above call `print_listing`, which takes a checked
+// plan, and `print_refusal`. Stands on `program`, `plan`, `field` and `lists`. Renders 01, "Worst norm", and of "The filing program"
+// what it prints.
 mod decimal;
 mod norm;
 mod printing;
 
-pub use decimal::put_decimal;
 pub use norm::Normed;
-pub use norm::worst;
 pub use norm::worst_norm;
 pub use printing::print_listing;
 pub use printing::print_refusal;

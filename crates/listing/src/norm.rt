@@ -2,6 +2,7 @@
 ghost use mathlib.Core.Path.{_≡_};
 ghost use Prim.Native.Nat.{_+_, _*_, _≤_, max};
 ghost use lib.ListN.{length};
+ghost use Rattle.lists.specs.Places.{largest};
 ghost use Rattle.field.specs.Rows.{dot};
 ghost use Rattle.plan.specs.Causes.{first};
 ghost use Rattle.plan.specs.Numbers.{Within, variables, columns, plan};
@@ -45,7 +46,7 @@ fn larger(a: usize, b: usize) -> usize
 fn links_norm(plan: Plan, weights: &[u8]) -> usize
     requires { ⌜ Within plan ⌝ }
     requires { ⌜ length (now weights) ≡ linkStart plan (plan .m) ⌝ }
-    ensures { λ r. ⌜ r ≡ specs.largest (λ k. specs.squares (now (weights .entry)) (linkStart plan k) (plan .n + k)) (plan .m) ⌝ }
+    ensures { λ r. ⌜ r ≡ largest (λ k. specs.squares (now (weights .entry)) (linkStart plan k) (plan .n + k)) (plan .m) ⌝ }
 {
     let n = plan.n;
     let mut top: usize = 0;
@@ -64,7 +65,7 @@ fn links_norm(plan: Plan, weights: &[u8]) -> usize
 fn rows_norm(ws: &[u8], l: usize, count: usize) -> usize
     requires { ⌜ l ≤ 64 ⌝ }
     requires { ⌜ count * l ≤ length (now ws) ⌝ }
-    ensures { λ r. ⌜ r ≡ specs.largest (λ b. specs.squares (now (ws .entry)) (b * l) l) count ⌝ }
+    ensures { λ r. ⌜ r ≡ largest (λ b. specs.squares (now (ws .entry)) (b * l) l) count ⌝ }
 {
     let mut top: usize = 0;
     let mut begin: usize = 0;

@@ -1,5 +1,6 @@
 -- The laws of `lists`, one module for each definition, and one for loops that write a list in place.
 pub mod Sums
+pub mod Maxima
 pub mod Tabs
 pub mod Tests
 pub mod Parts

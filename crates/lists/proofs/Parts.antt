@@ -1,13 +1,14 @@
--- A part of a list, from a start and of a length, as the code's `&s[a..a + l]` is read.
+-- A part of a list, from a start and of a length, as the code's `&s[a..a + l]` is read, and what a list reads as at a place.
 --     part-length, cut-length, part-at       the part's length, and what stands at a place of it
---     at-past                                past its end a list reads as 0
+--     at-past, zeros-at                      past its end a list reads as 0, and a list of zeros does everywhere
 -- Assumes nothing.
 use mathlib.Core.Path.{_≡_, _∙_}
 use mathlib.Core.List.{List}
 use Prim.Native.Nat.{ℕ, _+_, _-_, _≤_, _<_}
+use native.Mathlib.Decide.{decLt}
 use native.Mathlib.Nat.{add-sub-cancel-left}
 use native.Mathlib.Omega.{arith}
-use lib.ListN.{length, take, drop, length-drop, List·getD-eq-default}
+use lib.ListN.{length, take, drop, replicate, length-drop, length-replicate, getD-replicate, List·getD-eq-default}
 use lib.Seq.{length-take-le, getD-take, getD-drop}
 use Rattle.lists.specs.Places.{at}
 
@@ -23,3 +24,9 @@ part-at xs a l k h = getD-take l (drop a xs) k 0 h ∙ getD-drop a xs k 0
 
 pub at-past : (xs : List ℕ) (k : ℕ) → length xs ≤ k → at xs k ≡ 0
 at-past xs k h = List·getD-eq-default xs 0 h
+
+pub zeros-at : (n k : ℕ) → at (replicate n 0) k ≡ 0
+zeros-at n k = elim (decLt k n) [
+  | yes l ↦ getD-replicate n k 0 0 l
+  | no l ↦ at-past (replicate n 0) k (rw length-replicate (omega arith))
+]

@@ -27,6 +27,3 @@ module _ {ℓ} {A : Type ℓ} where
 
   pub tab-ext : (n : ℕ) (f g : ℕ → A) (d : A) → ((i : ℕ) → i < n → f i ≡ g i) → tab n f ≡ tab n g
   tab-ext n f g d h = is-tab (tab n f) n g d (tab-length n f) (λ i l. tab-at n f d i l ∙ h i l)
-
-  pub tab-of : (xs : List A) (n : ℕ) (d : A) → length xs ≡ n → tab n (λ i. getD xs i d) ≡ xs
-  tab-of xs n d e = sym (is-tab xs n (λ i. getD xs i d) d e (λ i l. refl))

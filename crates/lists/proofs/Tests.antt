@@ -1,7 +1,9 @@
 -- The laws of `every` and of `&&`: a test of all places below n, computed once, gives the fact at each place, and the facts give the test.
---     every-at, every-of     from the test to a place, and from all places to the test
---     every-next             one place more
---     both-true, both        from a conjunction to its halves, and back
+--     refute                   a test that cannot hold is false
+--     and-false, and-assoc     the standard library's, passed on
+--     both-true, both          from a conjunction to its halves, and back
+--     every-next               one place more
+--     every-at, every-of       from the test to a place, and from all places to the test
 -- Assumes nothing.
 use mathlib.Core.Path.{_≡_, refl, ap, _∙_}
 use mathlib.Core.Bool.{Bool, true, false, _&&_, false≢true}
@@ -10,6 +12,11 @@ use Prim.Native.Nat.{ℕ, zero, suc, _+_, _<_}
 use native.Mathlib.Nat.{le-of-suc-le-suc, not-suc-le-zero, le-step, lt-suc-self, eq-or-lt-of-le}
 use native.Mathlib.Numerals.{add-one}
 use Rattle.lists.specs.Places.{every}
+pub use mathlib.Core.Bool.{and-false, and-assoc}
+
+pub refute : (b : Bool) → (b ≡ true → ⊥) → b ≡ false
+refute true h = absurd (h refl)
+refute false h = refl
 
 pub both-true : (a b : Bool) → (a && b) ≡ true → (a ≡ true) × (b ≡ true)
 both-true true b h = (refl, h)

@@ -1,2 +1,3 @@
--- The definitions of `lists`: finite sums, lists by place, and tests of every place.
+-- The definitions of `lists`: finite sums, the largest of numbers, lists by place, and tests of every place. They stand on the standard
+-- library alone and render no document.
 pub mod Places

@@ -1,11 +1,12 @@
 -- Refusals: causes in number order.
 --     first-append                          two lists of causes in turn: the first list's refusal, or the second's where it has none
 --     first-refused, first-passed           the same by the first list's refusal
+--     first-none, unmet                     where two lists refuse nothing, neither does; a cause that is not the refusal is not met
 --     result-refused                        a refusal leaves a lent slice as it was
 --     refused-prime, refused-radix, refused-range, accepts       the constructor's answer from the facts about its numbers
 --     within-of                             a plan that meets none of causes 1 to 3 is within its limits
 --     call-numbers, call-parts, call-passed       a call's refusal: by its numbers, by its parts, or by its own causes
---     call-plan, call-within, call-lent           what is known of the plan and the parts on the way
+--     call-plan, call-within                      what is known of the plan on the way
 --     accepted-plan, accepted-parts, accepted-call       a plan that is accepted by itself: a call lent it has only its own causes left
 --     none-met                                    a call that is not refused meets none of its causes
 --     lent-of                               parts that meet neither of causes 4 and 5 are lent as the plan asks
@@ -62,12 +63,19 @@ first-refused a b k h e pos = sym (first-append a b h ∙ ap (λ (j : ℕ). orEl
 pub first-passed : (a b : List (ℕ × Bool)) → Numbered a → first a ≡ 0 → first (a ++ b) ≡ first b
 first-passed a b h e = first-append a b h ∙ ap (λ (j : ℕ). orElse j (first b)) e
 
+pub first-none : (a b : List (ℕ × Bool)) → Numbered a → first (a ++ b) ≡ 0 → (first a ≡ 0) × (first b ≡ 0)
+first-none a b h e = neither-refuses (first a) (first b) (sym (first-append a b h) ∙ e)
+  where
+    neither-refuses : (j k : ℕ) → orElse j k ≡ 0 → (j ≡ 0) × (k ≡ 0)
+    neither-refuses zero k e = (refl, e)
+    neither-refuses (suc j) k e = absurd (omega arith)
+
 pub result-refused : (k : ℕ) (new old : List ℕ) → 0 < k → result k new old ≡ old
 result-refused zero new old pos = absurd (omega arith)
 result-refused (suc k) new old pos = refl
 
 -- a cause that is not the refusal is not met
-unmet : (c : Bool) (k rest : ℕ) → 0 < k → cond c k rest ≡ 0 → (c ≡ false) × (rest ≡ 0)
+pub unmet : (c : Bool) (k rest : ℕ) → 0 < k → cond c k rest ≡ 0 → (c ≡ false) × (rest ≡ 0)
 unmet true k rest l e = absurd (omega arith)
 unmet false k rest l e = (refl, e)
 
@@ -221,19 +229,8 @@ module _ (p s n m t : ℕ) (w T d : List ℕ) (own : Plan → Bool) (rest : Plan
     pub call-parts : (k : ℕ) → k ≡ first (partCauses Q w T d (own Q)) → 0 < k → k ≡ first (callCauses p s n m t w T d own rest)
     call-parts k h pos = first-refused (partCauses Q w T d (own Q)) (rest Q) k (omega arith) (sym h) pos ∙ sym after-numbers
 
-    pub call-lent : 0 ≡ first (partCauses Q w T d (own Q)) → Lent Q w T d × (own Q ≡ true)
-    call-lent h = lent-of Q w T d (own Q) (call-within p s n m t e) (sym h)
-
     pub call-passed : 0 ≡ first (partCauses Q w T d (own Q)) → first (callCauses p s n m t w T d own rest) ≡ first (rest Q)
     call-passed h = after-numbers ∙ first-passed (partCauses Q w T d (own Q)) (rest Q) (omega arith) (sym h)
-
--- a plan that is accepted by itself: only a call's own causes are left
-pub first-none : (a b : List (ℕ × Bool)) → Numbered a → first (a ++ b) ≡ 0 → (first a ≡ 0) × (first b ≡ 0)
-first-none a b h e = neither-refuses (first a) (first b) (sym (first-append a b h) ∙ e)
-  where
-    neither-refuses : (j k : ℕ) → orElse j k ≡ 0 → (j ≡ 0) × (k ≡ 0)
-    neither-refuses zero k e = (refl, e)
-    neither-refuses (suc j) k e = absurd (omega arith)
 
 module _ (p s n m t : ℕ) (w T d : List ℕ) where
   -- a call that is not refused meets none of its causes
@@ -246,6 +243,7 @@ module _ (p s n m t : ℕ) (w T d : List ℕ) where
       let b = first-none (partCauses P w T d (own P)) (rest P) (omega arith) (a .1) in
       (a .0, b .0, b .1)
 
+  -- a plan that is accepted by itself: only a call's own causes are left
   module _ (accepted : first (callCauses p s n m t w T d (λ _. true) (λ _. [])) ≡ 0) where
     pub accepted-plan : Within (plan p s n m t)
     accepted-plan = within-of p s n m t (none-met (λ _. true) (λ _. []) accepted .0)

@@ -1,7 +1,7 @@
 -- 003, Equation 1, with its own nested sums:
 --     Σ_{i=0}^{t-1} (Σ_{j=0}^{L-1} β_{i,j} · x_j) · (Σ_{k=0}^{L-1} d_{i,k} · x_k) + Σ_{j=0}^{L-1} β_{t,j} · x_j
 -- where β_{i,j} is β_{iL+j} ("a flattened container") and d is t rows of L. `Rattle.plan.proofs.Reproduction.row-times` says that a row
--- times β is its right-hand side modulo p.
+-- times β is its right-hand side modulo p. Stands on `Numbers`, and on `Rows` for the row of 01, "From entry to row".
 --     equation1 P d β xs            the right-hand side, over the variables xs
 --     reproduced P w T d i β        "row i times β, summed"
 use mathlib.Core.List.{List}

@@ -1,4 +1,5 @@
--- The definitions of `plan`, in the order of 01.
+-- The definitions of `plan`: refusals, a plan's numbers and parts, the row of an entry (01), and Equation 1 (003). They stand on those
+-- of `field` and `lists`.
 pub mod Causes
 pub mod Numbers
 pub mod Parts

@@ -1,9 +1,13 @@
--- 01, "The plan": the numbers p, s, n, m, t, their limits, and causes 1 to 3.
+-- 01, "The plan": the numbers p, s, n, m, t, their limits, and causes 1 to 3. Stands on `Causes`, and on `field` for the odd primes.
 --     variables P              L = n + m
 --     columns P                C, which is t + 1 times L
 --     entries P                s^n
+--     badRadix p s             cause 2, "s below 2 or above p", as a test
+--     outOfRange s n m t       cause 3, "n, L, t, C or s^n out of range", as a test
 --     numberCauses p s n m t   causes 1 to 3
---     checked p s n m t        what the constructor answers: the plan, or the number of the refusal
+--     plan p s n m t           the plan of these numbers
+--     answer k P               an answer from a refusal k: `Accepted` with the plan P where k is 0, else `Refused` with k, 01's number
+--     checked p s n m t        what the constructor answers
 --     Within P                 the plan's numbers meet none of causes 1 to 3, limit by limit
 use mathlib.Core.Path.{_≡_}
 use mathlib.Core.Bool.{Bool, true, not, _||_}
@@ -25,11 +29,10 @@ columns P = (P .t + 1) * (P .n + P .m)
 abbrev pub entries : Plan → ℕ
 entries P = P .s ^ P .n
 
--- "s below 2 or above p"
 unfoldable pub badRadix : ℕ → ℕ → Bool
 badRadix p s = ltb s 2 || ltb p s
 
--- "n, L, t, C or s^n out of range": n at least 1, L at most 64, t at most 32, C at most 1,024, s^n at most 4,096
+-- n at least 1, L at most 64, t at most 32, C at most 1,024, s^n at most 4,096
 unfoldable pub outOfRange : ℕ → ℕ → ℕ → ℕ → Bool
 outOfRange s n m t =
     ltb n 1 || (ltb 64 (n + m) || (ltb 32 t || (ltb 1024 ((t + 1) * (n + m)) || ltb 4096 (s ^ n))))
@@ -46,11 +49,6 @@ answer (suc k) P = Refused (suc k)
 
 unfoldable pub checked : ℕ → ℕ → ℕ → ℕ → ℕ → Checked
 checked p s n m t = answer (first (numberCauses p s n m t)) (plan p s n m t)
-
--- 01's number for each case of the constructor's answer
-abbrev pub numberOf : Checked → ℕ
-numberOf (Accepted P) = 0
-numberOf (Refused k) = k
 
 pub record Within (P : Plan) : Type 0 where
   pub prime : oddPrime (P .p) ≡ true

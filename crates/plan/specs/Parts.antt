@@ -1,6 +1,6 @@
 -- 01, "The plan": the parts that a plan carries, one flat slice each, and causes 4 and 5.
 -- "link weights: link k (from 0) has n+k weights, links in order; link tables: p values each, for the sums 0 to p−1 in order; product
--- weights d: t rows of L. All are residues 0 to p−1, one byte each."
+-- weights d: t rows of L. All are residues 0 to p−1, one byte each." Stands on `Numbers`, and on `field` for rows of residues.
 --     linkStart P k               where link k's weights begin: after the n + i weights of each link i before it
 --     lengthsFit P w T d          each part has the length that the plan says, as a test
 --     valuesFit P w T d           each weight and table value is below p, as a test

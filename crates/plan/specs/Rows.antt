@@ -1,4 +1,4 @@
--- 01, "From entry to row": digits, variables, rows.
+-- 01, "From entry to row": digits, variables, rows, and cause 7. Stands on `Numbers` and `Parts`.
 --     digit P i j               digit j of entry i: "n digits in radix s", variable 0 the most significant
 --     link P w T xs k           "the value of link table k at the sum of link k's weights, each times its variable among 0 to n+k−1, modulo p"
 --     chain P w T i k           the first n + k variables of entry i
@@ -6,7 +6,8 @@
 --     weighted P d xs b         "the sum of d row b's weights each times its variable"
 --     rowPlace P d xs c         place c of the row: block c / L, variable c % L
 --     row P w T d i             row i, C residues
---     rowCauses                 the causes that the call `row` can meet
+--     entryCause P i            7, "entry not below s^n"
+--     rowCauses                 the causes that the call `row` can meet: 1 2 3 4 5 7
 use mathlib.Core.Bool.{Bool, not, cond}
 use mathlib.Core.List.{List, [], _∷_, _++_}
 use Prim.Native.Nat.{ℕ, zero, suc, _+_, _-_, _*_, _/_, _%_, _^_}
@@ -41,7 +42,6 @@ rowPlace P d xs c =
 unfoldable pub row : Plan → List ℕ → List ℕ → List ℕ → ℕ → List ℕ
 row P w T d i = tab (columns P) (rowPlace P d (values P w T i))
 
--- "entry not below s^n"
 abbrev pub entryCause : Plan → ℕ → ℕ × Bool
 entryCause P i = (7, not (ltb i (entries P)))
 

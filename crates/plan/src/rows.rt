@@ -1,6 +1,5 @@
 // From entry to row: digits, variables, blocks.
 ghost use mathlib.Core.Path.{_≡_};
-ghost use mathlib.Core.List.{List};
 ghost use Prim.Native.Nat.{_+_, _*_, _%_, _≤_};
 ghost use lib.ListN.{length};
 ghost use Rattle.lists.specs.Places.{tab, at};
@@ -39,14 +38,7 @@ fn link(weights: &[u8], table: &[u8], x: &[u8], p: u8) -> u8
 }
 
 // The L variables of an entry: its digits, then link after link. `begin` is where link k's weights begin.
-pub fn fill_variables(
-    plan: Plan,
-    weights: &[u8],
-    tables: &[u8],
-    d: &[u8],
-    entry: usize,
-    x: &mut [u8],
-)
+fn fill_variables(plan: Plan, weights: &[u8], tables: &[u8], d: &[u8], entry: usize, x: &mut [u8])
     requires { ⌜ Within plan ⌝ }
     requires { ⌜ Lent plan (now weights) (now tables) (now d) ⌝ }
     requires { ⌜ length (now x) ≡ variables plan ⌝ }
@@ -105,7 +97,7 @@ pub fn fill_row(plan: Plan, weights: &[u8], tables: &[u8], d: &[u8], entry: usiz
     requires { ⌜ length (now row) ≡ columns plan ⌝ }
     ensures { λ _. ⌜ now (row .exit) ≡ specs.row plan (now (weights .entry)) (now (tables .entry)) (now (d .entry)) entry ⌝ }
 {
-    let mut x = [0u8; 64];
+    let mut x = [0u8; Plan::VARIABLES];
     let l = plan.variables();
     fill_variables(plan, weights, tables, d, entry, &mut x[..l]);
     fill_blocks(plan, d, &x[..l], row);

@@ -7,7 +7,7 @@
 -- Assumes nothing.
 use mathlib.Core.Path.{_≡_, refl, sym, ap, _∙_}
 use mathlib.Core.Bool.{Bool, true, false, cond, not}
-use mathlib.Core.List.{List, [], _∷_, _++_}
+use mathlib.Core.List.{List, [], _∷_}
 use Prim.Native.Nat.{ℕ, zero, suc, _+_, _*_, _≤_, _<_}
 use native.Mathlib.Omega.{arith}
 use lib.Dec.{eqb, ltb}
@@ -23,23 +23,12 @@ use Rattle.plan.specs.Numbers.{columns, plan, checked, numberCauses, Within}
 use Rattle.plan.specs.Parts.{partCauses, callCauses, Lent}
 use Rattle.plan.specs.declared.numbers.Plan.{Plan}
 use Rattle.plan.specs.declared.numbers.Checked.the-variants.{Accepted, Refused}
-use Rattle.plan.proofs.Refusals.{orElse, Numbered, first-append, first-refused, first-passed, result-refused, within-of, lent-of, call-numbers, call-parts, call-passed}
+use Rattle.plan.proofs.Refusals.{first-refused, first-passed, first-none, unmet, result-refused, within-of, lent-of, call-numbers, call-parts, call-passed}
 use Rattle.program.specs.Steps.{wellFormed}
 use Rattle.program.specs.Layout.{layout, stepCount}
 use Rattle.program.specs.Calls.{writeCauses, writingCauses, runCauses, written, handed, ran}
 use Rattle.program.specs.declared.running.Ran.the-variants.{Done, Refused as RunRefused}
 use Rattle.program.proofs.Shape.{layout-length}
-
-neither : (a b : ℕ) → orElse a b ≡ 0 → (a ≡ 0) × (b ≡ 0)
-neither zero b e = (refl, e)
-neither (suc a) b e = absurd (omega arith)
-
-both-passed : (a b : List (ℕ × Bool)) → Numbered a → first (a ++ b) ≡ 0 → (first a ≡ 0) × (first b ≡ 0)
-both-passed a b h e = neither (first a) (first b) (sym (first-append a b h) ∙ e)
-
-unmet : (c : Bool) (k rest : ℕ) → 0 < k → cond c k rest ≡ 0 → (c ≡ false) × (rest ≡ 0)
-unmet true k rest l e = absurd (omega arith)
-unmet false k rest l e = (refl, e)
 
 module _ (P : Plan) (w T d β : List ℕ) (room : ℕ) where
   parts : List (ℕ × Bool)
@@ -68,7 +57,7 @@ module _ (P : Plan) (w T d β : List ℕ) (room : ℕ) where
   pub writing-accepted : Within P → first (writingCauses P w T d β room) ≡ 0 → Lent P w T d × (length β ≡ columns P) × (allBelow (P .p) β ≡ true) × (4 * stepCount P ≤ room)
   unfolding writingCauses parts own
   writing-accepted within e =
-      let h = both-passed parts own (omega arith) e in
+      let h = first-none parts own (omega arith) e in
       let lent = lent-of P w T d (eqb (length β) (columns P)) within (h .0) in
       let c5 = unmet (not (allBelow (P .p) β)) 5 (cond (ltb room (4 * stepCount P)) 10 0) (omega arith) (h .1) in
       let c10 = unmet (ltb room (4 * stepCount P)) 10 0 (omega arith) (c5 .1) in
@@ -101,7 +90,7 @@ module _ (p s n m t : ℕ) (w T d β steps : List ℕ) where
   pub write-within : first (writeCauses p s n m t w T d β steps) ≡ 0 → Within (plan p s n m t) × (first (writingCauses (plan p s n m t) w T d β (length steps)) ≡ 0)
   unfolding writeCauses writingCauses callCauses
   write-within e =
-      let h = both-passed (numberCauses p s n m t) (writingCauses (plan p s n m t) w T d β (length steps)) (omega arith) e in
+      let h = first-none (numberCauses p s n m t) (writingCauses (plan p s n m t) w T d β (length steps)) (omega arith) e in
       (within-of p s n m t (h .0), h .1)
 
 ran-refused : (k j y count : ℕ) → k ≡ j → 0 < k → RunRefused k ≡ ran j y count

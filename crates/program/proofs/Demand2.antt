@@ -4,7 +4,7 @@
 -- adds its weighted sum (`goes-rest`), so that y holds the equation's right-hand side.
 --     demand2           for each entry
 --     table-link, table-square, table-minus       the three kinds of tables
---     digits-length, digits-below       the digits of an entry are n numbers below s
+--     digits-length     an entry has n digits
 -- Assumes nothing.
 use mathlib.Core.Path.{_≡_, refl, sym, ap, ap₂, fun-ext, subst, _∙_}
 use mathlib.Core.List.{List, [], _∷_, _++_}
@@ -17,7 +17,7 @@ use lib.Seq.{getD-append-seam}
 use borrow.Author.Tests.{eq-eqb, ne-eqb, lt-ltb, le-ltb}
 use Rattle.lists.specs.Places.{sum, tab, joined, at}
 use Rattle.lists.proofs.Sums.{sum-zero, sum-suc, sum-ext}
-use Rattle.lists.proofs.Tabs.{tab-length, tab-at}
+use Rattle.lists.proofs.Tabs.{tab-length}
 use Rattle.lists.proofs.Parts.{at-past}
 use Rattle.field.specs.Residues.{square, minusSquare}
 use Rattle.field.proofs.Modular.{cong-add, cong-mul}
@@ -29,7 +29,6 @@ use Rattle.plan.specs.Equation.{equation1}
 use Rattle.plan.specs.declared.numbers.Plan.{Plan}
 use Rattle.plan.proofs.Bounds.{prime-low}
 use Rattle.plan.proofs.Chains.{chain-length, values-length}
-use Rattle.plan.proofs.Digits.{digit-below}
 use Rattle.program.specs.Steps.{tableAt, Registers, put, output}
 use Rattle.program.specs.Layout.{clear, adds, linkSteps, productSteps, layout}
 use Rattle.program.proofs.Pieces.{Goes, goes-then, goes-to, goes-joined, goes-registers}
@@ -37,9 +36,6 @@ use Rattle.program.proofs.Effects.{put-same, put-other, put-put, goes-c
 
 pub digits-length : (P : Plan) (i : ℕ) → length (tab (P .n) (digit P i)) ≡ P .n
 digits-length P i = tab-length (P .n) (digit P i)
-
-pub digits-below : (P : Plan) (i j : ℕ) → Within P → j < P .n → at (tab (P .n) (digit P i)) j < P .s
-digits-below P i j within h = rw (tab-at (P .n) (digit P i) 0 j h) (digit-below P i j within)
 
 -- the three kinds of tables
 pub table-link : (P : Plan) (T : List ℕ) (k z : ℕ) → k < P .m → tableAt P T k z ≡ at T (k * P .p + z)

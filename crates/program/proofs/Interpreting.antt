@@ -11,7 +11,7 @@ use mathlib.Core.Path.{_≡_, refl, sym, ap, fun-ext, subst, _∙_}
 use mathlib.Core.Bool.{Bool, true, false, cond, _&&_, true≢false}
 use mathlib.Core.Logic.{_≢_}
 use mathlib.Core.List.{List}
-use Prim.Native.Nat.{ℕ, zero, suc, _+_, _-_, _*_, _/_, _%_, _^_, _≤_, _<_}
+use Prim.Native.Nat.{ℕ, _+_, _-_, _*_, _/_, _%_, _≤_, _<_}
 use native.Mathlib.Decide.{ℕ-discrete, decLt}
 use native.Mathlib.Nat.{mod-lt, mod-mod, mod-self, mod-eq-of-lt}
 use native.Mathlib.Numerals.{add-one}
@@ -22,17 +22,13 @@ use lib.Seq.{getD-set-same, getD-set-other}
 use borrow.Author.Tests.{eq-eqb, ne-eqb, eqb-true, leb-true, ltb-true}
 use Rattle.lists.specs.Places.{sum, every, at}
 use Rattle.lists.proofs.Sums.{sum-zero, sum-next, sum-le}
-use Rattle.lists.proofs.Tests.{both, both-true, every-at, every-next}
-use Rattle.lists.proofs.Parts.{at-past}
+use Rattle.lists.proofs.Tests.{refute, both, both-true, every-at, every-next}
+use Rattle.lists.proofs.Parts.{at-past, zeros-at}
 use Rattle.field.specs.Residues.{Residues, inverse, square, minusSquare}
 use Rattle.field.proofs.Modular.{pow-cong}
 use Rattle.plan.specs.declared.numbers.Plan.{Plan}
 use Rattle.program.specs.Steps.{lastRegister, tableAt, kindOf, toOf, fromOf, byOf, goodStep, wellFormed, put, after, registers, bootstraps, output}
 use Rattle.program.proofs.Effects.{put-same, put-other}
-
-decided : (b : Bool) → (b ≡ true → ⊥) → b ≡ false
-decided true h = absurd (h refl)
-decided false h = refl
 
 -- cause 11
 module _ (P : Plan) (steps : List ℕ) where
@@ -50,7 +46,7 @@ module _ (P : Plan) (steps : List ℕ) where
       (eqb-true (length steps % 4) 0 (hs .0), every-at (λ i. goodStep P (kindOf steps i) (toOf steps i) (fromOf steps i) (byOf steps i)) (length steps / 4) (hs .1))
 
   pub bad : (i : ℕ) → i < length steps / 4 → goodStep P (kindOf steps i) (toOf steps i) (fromOf steps i) (byOf steps i) ≡ false → wellFormed P steps ≡ false
-  bad i l e = decided (wellFormed P steps) (λ t. true≢false (sym (well-formed t .1 i l) ∙ e))
+  bad i l e = refute (wellFormed P steps) (λ t. true≢false (sym (well-formed t .1 i l) ∙ e))
 
   pub good-none : every goodAt 0 ≡ true
   unfolding every
@@ -106,10 +102,6 @@ pub small-inverse : (p : ℕ) → inverse p (4 % p) ≡ inverse p 4
 unfolding inverse
 small-inverse p = pow-cong p (4 % p) 4 (mod-mod 4 p) (p - 2)
 
-pub inverse-small : (p a : ℕ) → 0 < p → inverse p a < p
-unfolding inverse
-inverse-small p a pos = mod-lt (a ^ (p - 2)) pos
-
 pub square-small : (p z : ℕ) → 0 < p → square p z < p
 unfolding square
 square-small p z pos = mod-lt (z * z * inverse p 4) pos
@@ -151,12 +143,7 @@ pub record Loaded (digits : List ℕ) (j : ℕ) (regs : List ℕ) : Type 0 where
   pub rest : (k : ℕ) → j ≤ k → at regs k ≡ 0
 
 pub loaded-none : (digits : List ℕ) → Loaded digits 0 (replicate 69 0)
-loaded-none digits = record { within = omega arith; size = refl; done = λ k l. absurd (omega arith); rest = λ k l. zeros 69 k }
-  where
-    zeros : (n k : ℕ) → at (replicate n 0) k ≡ 0
-    zeros zero k = refl
-    zeros (suc n) zero = refl
-    zeros (suc n) (suc k) = zeros n k
+loaded-none digits = record { within = omega arith; size = refl; done = λ k l. absurd (omega arith); rest = λ k l. zeros-at 69 k }
 
 pub loaded-next : {digits regs : List ℕ} {j : ℕ} → Loaded digits j regs → j < length digits → length digits ≤ 69 → Loaded digits (j + 1) (set regs j (at digits j))
 loaded-next {digits} {regs} {j} l h fits =

@@ -23,8 +23,8 @@ use Rattle.lists.proofs.Parts.{cut-length, part-at}
 use Rattle.plan.specs.Numbers.{variables}
 use Rattle.plan.specs.Parts.{linkStart}
 use Rattle.plan.specs.declared.numbers.Plan.{Plan}
-use Rattle.program.specs.Layout.{step, clear, add, boot, adds, linkSteps, productSteps, layout}
-use Rattle.program.specs.Placed.{Room, Wrote, squareSteps}
+use Rattle.program.specs.Layout.{step, clear, add, boot, adds, linkSteps, squareSteps, productSteps, layout}
+use Rattle.program.specs.Placed.{Room, Wrote}
 
 pub room-front : (out : List ℕ) (k : ℕ) (xs ys : List ℕ) → Room out k (xs ++ ys) → Room out k xs
 room-front out k xs ys h = omega (arith, length-append xs ys, h)

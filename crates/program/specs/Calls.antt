@@ -1,10 +1,12 @@
--- The calls on programs: their causes in number order, what they answer and what they leave (01, "Turned down", causes 10 to 12).
+-- The calls on programs: their causes in number order, what they answer and what they leave (01, "Turned down", causes 10 to 12; what the
+-- writer hands back, "The written program"; what the run answers, "Running it"). Stands on `Steps` and `Layout`, and on `plan`.
 --     writeCauses       check a writing, and the writer: 1 2 3 4 5 10
 --     runCauses         the run: 1 2 3 4 5 11 12
 --     writingCauses     what is left of a writing's causes for a checked plan: 4 5 10
 --     written k P ..    the step slice after the writer: the layout and the rest as it was, or, refusing, all as it was
 --     handed k P ..     what the writer hands back: the layout, or, refusing, nothing
 --     ran k y count     the run's answer from its refusal: `Done` with y and the number of bootstraps, or `Refused` with 01's number
+--     numberOf a        01's number for each case of that answer, 0 where the list was run
 use mathlib.Core.Bool.{Bool, not}
 use mathlib.Core.List.{List, [], _∷_, _++_}
 use Prim.Native.Nat.{ℕ, zero, suc, _*_}
@@ -48,7 +50,6 @@ unfoldable pub ran : ℕ → ℕ → ℕ → Ran
 ran zero y count = Done y count
 ran (suc k) y count = Refused (suc k)
 
--- 01's number for each case of the run's answer
 abbrev pub numberOf : Ran → ℕ
 numberOf (Done y count) = 0
 numberOf (Refused k) = k

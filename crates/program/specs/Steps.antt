@@ -1,11 +1,14 @@
 -- 01, "The written program" (steps and tables) and "Running it".
--- A step list is a list of numbers, four to a step: kind, to, from, by. Registers are read by number; the run knows no writer.
+-- A step list is a list of numbers, four to a step: kind, to, from, by. Registers are read by number; the run knows no writer. Stands
+-- on `plan`, and on `field` for the two square tables.
 --     lastRegister P              y, register L+4
 --     tableAt P T k z             table k at z: link table k, table m or table m+1
---     wellFormed P steps          the list meets none of the conditions of cause 11, as a test
+--     kindOf steps i, toOf steps i, fromOf steps i, byOf steps i       the four numbers of step i
+--     goodStep P kind to from by  the step meets none of the conditions of cause 11, as a test
+--     wellFormed P steps          the list meets none of them, as a test
 --     Registers                   the registers, by number
 --     put f r v                   the registers f with register r set to v
---     after P T f kind to by ..   the registers after one step
+--     after P T f kind to from by      the registers after one step
 --     registers P T steps digits k     the registers after the first k steps: "Registers 0 to n−1 start as the digits, all others as 0"
 --     bootstraps steps            "the count of kind 2 steps in the list given"
 --     output P T steps digits     y after the whole list
@@ -26,7 +29,6 @@ unfoldable pub tableAt : Plan → List ℕ → ℕ → ℕ → ℕ
 tableAt P T k z =
     cond (ltb k (P .m)) (at T (k * P .p + z)) (cond (eqb k (P .m)) (square (P .p) z) (minusSquare (P .p) z))
 
--- the four numbers of step i
 abbrev pub kindOf : List ℕ → ℕ → ℕ
 kindOf steps i = at steps (4 * i)
 
@@ -39,7 +41,7 @@ fromOf steps i = at steps (4 * i + 2)
 abbrev pub byOf : List ℕ → ℕ → ℕ
 byOf steps i = at steps (4 * i + 3)
 
--- cause 11 for one step: "kind above 2, register above L+4, kind 1 `by` not below p, table above m+1, a kind 0 `from` or `by` not 0"
+-- cause 11: "kind above 2, register above L+4, kind 1 `by` not below p, table above m+1, a kind 0 `from` or `by` not 0"
 unfoldable pub goodStep : Plan → ℕ → ℕ → ℕ → ℕ → Bool
 goodStep P kind to from by =
     (leb kind 2 && (leb to (lastRegister P) && leb from (lastRegister P)))

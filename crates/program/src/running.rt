@@ -94,17 +94,20 @@ fn table_at(plan: Plan, tables: &[u8], quarter: u8, k: usize, z: u8) -> u8
 }
 
 // The registers by value: each step takes them and gives the registers after it.
-pub struct Registers {
-    pub at: [u8; 69],
+struct Registers {
+    at: [u8; Registers::COUNT],
 }
 
 impl Registers {
+    // The variables, then u, v, a, b and y.
+    const COUNT: usize = Plan::VARIABLES + 5;
+
     // The digits first, all others 0.
     fn new(digits: &[u8]) -> Self
         requires { ⌜ length (now digits) ≤ 69 ⌝ }
         ensures { λ r. ⌜ (length (r .at) ≡ 69) × (at (r .at) ≡ at (now (digits .entry))) ⌝ }
     {
-        let mut at = [0u8; 69];
+        let mut at = [0u8; Registers::COUNT];
         let mut j: usize = 0;
         while j < digits.len() {
             at[j] = digits[j];

@@ -7,7 +7,7 @@ ghost use Rattle.lists.specs.Places.{joined, placed, at};
 ghost use Rattle.plan.specs.Numbers.{Within, variables, columns};
 ghost use Rattle.plan.specs.Parts.{linkStart};
 ghost use Rattle.program.specs.Layout as specs;
-ghost use Rattle.program.specs.Placed.{Room, Wrote, squareSteps};
+ghost use Rattle.program.specs.Placed.{Room, Wrote};
 use plan::Plan;
 
 // The number of steps: m(n+2) + m(m-1)/2 + 1 + t(2L+12) + L. The first two terms are made as one.
@@ -109,8 +109,8 @@ fn put_links(plan: Plan, weights: &[u8], out: &mut [u16]) -> usize
 // From u and v, the registers after the variables, to y: a and b become u + v and u - v, then their squares' tables, and both go to y.
 fn put_squares(out: &mut [u16], begin: usize, u: u16, table: u16, minus: u16) -> usize
     requires { ⌜ (u ≤ 64) × (table ≤ 64) ⌝ }
-    requires { ⌜ Room (now out) begin (squareSteps u table minus) ⌝ }
-    ensures { λ r. ⌜ Wrote (now (out .entry)) begin (squareSteps u table minus) r (now (out .exit)) ⌝ }
+    requires { ⌜ Room (now out) begin (specs.squareSteps u table minus) ⌝ }
+    ensures { λ r. ⌜ Wrote (now (out .entry)) begin (specs.squareSteps u table minus) r (now (out .exit)) ⌝ }
 {
     let v = u + 1;
     let a = u + 2;

@@ -4,17 +4,19 @@ use mathlib.Core.Path.{_≡_, sym, ap, _∙_}
 use Prim.Native.Nat.{ℕ, _+_, _-_, _≤_}
 use native.Mathlib.Nat.{le-antisymm}
 use native.Mathlib.Omega.{arith}
+use Rattle.lists.specs.Places.{largest}
 use Rattle.lists.proofs.Sums.{sum-zero, sum-next}
+use Rattle.lists.proofs.Maxima.{largest-none, largest-turn}
 use Rattle.lists.proofs.Parts.{cut-length}
 use Rattle.plan.specs.Parts.{linkStart}
 use Rattle.plan.proofs.Chains.{link-room}
 use Rattle.listing.specs.Norm as specs
-use Rattle.listing.proofs.Norms.{largest-none, largest-turn, part-squares}
+use Rattle.listing.proofs.Norms.{part-squares}
 use Rattle.listing.proofs.norm.links_norm.Statement.{statement}
 use Rattle.listing.proofs.norm.links_norm.Tie as tie
 
 abbrev Inv-loop : tie.InvT-loop
-Inv-loop plan weights n top₀ begin₀ k₀ top begin k = (k ≤ plan .m) × (begin ≡ linkStart plan k) × (top ≡ specs.largest (λ i. specs.squares weights (linkStart plan i) (plan .n + i)) k)
+Inv-loop plan weights n top₀ begin₀ k₀ top begin k = (k ≤ plan .m) × (begin ≡ linkStart plan k) × (top ≡ largest (λ i. specs.squares weights (linkStart plan i) (plan .n + i)) k)
 
 abbrev μ-loop : tie.MeasureT-loop
 μ-loop plan weights n top₀ begin₀ k₀ top begin k = plan .m - k
@@ -71,7 +73,7 @@ loop-again c =
 returns : tie.Need-returns Inv-loop μ-loop
 returns c =
     let s = c .before .before .before .before in
-    c .before .before .loop .inv .2 ∙ ap (specs.largest (λ i. specs.squares (s .args .weights .now) (linkStart (s .args .plan) i) (s .args .plan .n + i))) (le-antisymm (c .before .before .loop .inv .0) (c .if1 .left))
+    c .before .before .loop .inv .2 ∙ ap (largest (λ i. specs.squares (s .args .weights .now) (linkStart (s .args .plan) i) (s .args .plan .n + i))) (le-antisymm (c .before .before .loop .inv .0) (c .if1 .left))
 
 pub links-norm-spec : {M : Type 1} → statement M
 links-norm-spec =

@@ -5,14 +5,16 @@ use Prim.Native.Nat.{ℕ, _-_, _*_, _≤_}
 use native.Mathlib.Nat.{le-antisymm}
 use native.Mathlib.Omega.{arith}
 use lib.ListN.{length}
+use Rattle.lists.specs.Places.{largest}
+use Rattle.lists.proofs.Maxima.{largest-none, largest-turn}
 use Rattle.lists.proofs.Parts.{cut-length}
 use Rattle.listing.specs.Norm as specs
-use Rattle.listing.proofs.Norms.{largest-none, largest-turn, part-squares, row-room}
+use Rattle.listing.proofs.Norms.{part-squares, row-room}
 use Rattle.listing.proofs.norm.rows_norm.Statement.{statement}
 use Rattle.listing.proofs.norm.rows_norm.Tie as tie
 
 abbrev Inv-loop : tie.InvT-loop
-Inv-loop ws l count top₀ begin₀ b₀ top begin b = (b ≤ count) × (begin ≡ b * l) × (top ≡ specs.largest (λ i. specs.squares ws (i * l) l) b)
+Inv-loop ws l count top₀ begin₀ b₀ top begin b = (b ≤ count) × (begin ≡ b * l) × (top ≡ largest (λ i. specs.squares ws (i * l) l) b)
 
 abbrev μ-loop : tie.MeasureT-loop
 μ-loop ws l count top₀ begin₀ b₀ top begin b = count - b
@@ -64,7 +66,7 @@ loop-again c =
 returns : tie.Need-returns Inv-loop μ-loop
 returns c =
     let s = c .before .before .before in
-    c .before .loop .inv .2 ∙ ap (specs.largest (λ i. specs.squares (s .args .ws .now) (i * s .args .l) (s .args .l))) (le-antisymm (c .before .loop .inv .0) (c .loop-test .left))
+    c .before .loop .inv .2 ∙ ap (largest (λ i. specs.squares (s .args .ws .now) (i * s .args .l) (s .args .l))) (le-antisymm (c .before .loop .inv .0) (c .loop-test .left))
 
 pub rows-norm-spec : {M : Type 1} → statement M
 rows-norm-spec =

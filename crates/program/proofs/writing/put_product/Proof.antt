@@ -7,8 +7,8 @@ use lib.ListN.{length}
 use Rattle.lists.proofs.Parts.{cut-length}
 use Rattle.plan.specs.Numbers.{variables}
 use Rattle.plan.proofs.Blocks.{block-room, row-room}
-use Rattle.program.specs.Layout.{productSteps}
-use Rattle.program.specs.Placed.{Room, Wrote, squareSteps}
+use Rattle.program.specs.Layout.{squareSteps, productSteps}
+use Rattle.program.specs.Placed.{Room, Wrote}
 use Rattle.program.proofs.Placement.{sumSteps, product-split, room-front, wrote-room, wrote-3}
 use borrow.Author.Needs.{needs}
 use Rattle.program.proofs.writing.put_product.Statement.{statement}

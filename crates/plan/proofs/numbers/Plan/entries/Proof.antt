@@ -2,7 +2,6 @@
 use native.Mathlib.Omega.{arith}
 use borrow.Author.Needs.{needs}
 use Rattle.plan.proofs.Bounds.{prime-high}
-use borrow.Author.Needs.{needs}
 use Rattle.plan.proofs.numbers.Plan.entries.Statement.{statement}
 use Rattle.plan.proofs.numbers.Plan.entries.Tie as tie
 
