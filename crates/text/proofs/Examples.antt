@@ -2,7 +2,7 @@
 -- Assumes nothing.
 use mathlib.Core.Path.{_≡_, refl}
 use mathlib.Core.List.{[], _∷_}
-use Rattle.lists.specs.Places.{sum, tab, every, joined}
+use Rattle.lists.specs.Places.{sum, tab, every, joined, largest}
 use Rattle.field.specs.Primes.{isPrime, oddPrime}
 use Rattle.field.specs.Residues.{inverse}
 use Rattle.plan.specs.Numbers.{badRadix, outOfRange}
@@ -11,7 +11,7 @@ use Rattle.plan.specs.Rows.{digit, link, chain, values, weighted, rowPlace, row
 use Rattle.store.specs.Elimination.{isZeroRow, isPivot, isReduced, residual, lead, normal, put, outcome, after, flat}
 use Rattle.store.specs.Calls.{fileCauses, filed, coefficients}
 use Rattle.program.specs.Layout.{adds, linkSteps, productSteps, layout, stepCount}
-use Rattle.listing.specs.Norm.{largest, squares, worst}
+use Rattle.listing.specs.Norm.{squares, worst}
 use Rattle.listing.specs.Decimal.{digitsOf, decimal, spaced, line}
 use Rattle.listing.specs.Printed.{listing, refused}
 use Rattle.text.specs.Lines.{cutAt, allDigits, isNumeral, numberFrom, allNumerals, asks, numbers, same}
