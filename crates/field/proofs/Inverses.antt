@@ -1,7 +1,7 @@
 -- Every residue but 0 times its inverse leaves 1, for all p together: one test that antt computes for each prime and each residue, and the
 -- law that carries it to any of them. The inverse of 4 has a test of its own, since 4 is no residue of 3.
 -- Assumes nothing.
-use mathlib.Core.Path.{_≡_, refl, ap, _∙_}
+use mathlib.Core.Path.{_≡_, refl}
 use mathlib.Core.Bool.{Bool, true, not, _||_}
 use Prim.Native.Nat.{ℕ, _+_, _-_, _*_, _%_, _<_}
 use native.Mathlib.Omega.{arith}

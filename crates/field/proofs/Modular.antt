@@ -6,7 +6,7 @@
 --     sum-cong, pow-cong       the same for `sum` and for powers
 --     cong-residue             congruent residues are equal
 -- Assumes nothing.
-use mathlib.Core.Path.{_≡_, refl, sym, ap, ap₂, _∙_}
+use mathlib.Core.Path.{_≡_, sym, ap, ap₂, _∙_}
 use Prim.Native.Nat.{ℕ, zero, suc, _+_, _*_, _/_, _%_, _^_, _<_}
 use native.Mathlib.Nat.{mod-mod, mod-add-mod, add-mod-mod, add-mod, add-mul-mod-self-right, mod-add-div', mod-eq-of-lt, mul-comm, pow-zero, pow-suc, le-step, lt-suc-self}
 use native.Mathlib.Omega.{arith}

@@ -1,6 +1,6 @@
 -- Powers by squaring: x times b to the e stays the same modulo p when a turn moves b's factor into x, squares b and halves e.
 -- Assumes nothing.
-use mathlib.Core.Path.{_≡_, refl, sym, ap, ap₂, _∙_}
+use mathlib.Core.Path.{_≡_, sym, ap, _∙_}
 use Prim.Native.Nat.{ℕ, zero, suc, _+_, _*_, _/_, _%_, _^_}
 use native.Mathlib.Nat.{pow-zero, pow-suc, one-mul, zero-add, mod-mod}
 use native.Mathlib.Omega.{arith}

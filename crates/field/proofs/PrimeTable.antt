@@ -6,15 +6,15 @@
 --     for-each-prime      a test that is computed for all p up to 251 gives its fact at every prime of the table
 -- Assumes nothing.
 use mathlib.Core.Path.{_≡_, refl, sym, ap, _∙_}
-use mathlib.Core.Bool.{Bool, true, false, not, _&&_, _||_, Bool·beq, true≢false}
-use mathlib.Core.Logic.{_↔_, ⊎-elim}
+use mathlib.Core.Bool.{Bool, true, false, not, _&&_, _||_, Bool·beq, true≢false, not-eq-not, and-false}
+use mathlib.Core.Logic.{_↔_}
 use mathlib.Core.List.{List, [], _∷_}
-use Prim.Native.Nat.{ℕ, zero, suc, _+_, _-_, _%_, _≤_, _<_}
+use Prim.Native.Nat.{ℕ, _+_, _-_, _%_, _≤_, _<_}
 use native.Mathlib.Decide.{decLt}
 use native.Mathlib.Nat.{lt-of-not-le}
 use native.Mathlib.Omega.{arith}
 use lib.Dec.{eqb, leb, ltb}
-use borrow.Author.Tests.{leb-true, lt-leb, le-leb, ltb-true, lt-ltb, eq-eqb, ne-eqb, eqb-true, eqb-false, not-true}
+use borrow.Author.Tests.{leb-true, lt-leb, le-leb, ltb-true, lt-ltb, eq-eqb, ne-eqb, eqb-false, not-true}
 use Rattle.lists.specs.Places.{every, at}
 use Rattle.lists.proofs.Tests.{both, both-true, every-at, every-of, every-next}
 use Rattle.field.specs.Primes.{Prime, isPrime, oddPrime}
@@ -39,12 +39,9 @@ absent-next p i h d =
 
 pub present : (p i : ℕ) → i < 53 → at primes i ≡ p → absent p 53 ≡ false
 unfolding absent
-present p i l e = decided (absent p 53) (λ t.
+present p i l e =
+    not-eq-not {a = absent p 53} {b = false} .0 (λ t.
     true≢false (sym (every-at (λ k. not (eqb (at primes k) p)) 53 t i l) ∙ ap not (eq-eqb (at primes i) p e)))
-  where
-    decided : (b : Bool) → (b ≡ true → ⊥) → b ≡ false
-    decided true h = absurd (h refl)
-    decided false h = refl
 
 small : every (λ p. Bool·beq (not (absent p 53)) (oddPrime p)) 252 ≡ true
 unfolding every isPrime oddPrime absent primes
@@ -66,11 +63,7 @@ prime-small k l = ltb-true (at primes k) 252 (every-at (λ j. ltb (at primes j) 
 
 oddPrime-above : (p : ℕ) → 251 < p → oddPrime p ≡ false
 unfolding oddPrime
-oddPrime-above p h = rw (lt-leb p 251 h) (and-false (leb 3 p) (isPrime p))
-  where
-    and-false : (a b : Bool) → ((a && false) && b) ≡ false
-    and-false true b = refl
-    and-false false b = refl
+oddPrime-above p h = rw (lt-leb p 251 h, and-false (leb 3 p))
 
 absent-above : (p : ℕ) → 251 < p → absent p 53 ≡ true
 unfolding absent

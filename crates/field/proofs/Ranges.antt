@@ -6,7 +6,7 @@
 --     plus-none          0 times a row added
 -- Assumes nothing.
 use mathlib.Core.Path.{_≡_, refl, sym, ap₂, _∙_}
-use mathlib.Core.Bool.{Bool, true, false, _&&_}
+use mathlib.Core.Bool.{true, _&&_}
 use mathlib.Core.List.{List, [], _∷_, _++_}
 use Prim.Native.Nat.{ℕ, zero, suc, max, _+_, _-_, _*_, _≤_, _<_}
 use native.Mathlib.Nat.{add-zero, zero-mul}
@@ -14,17 +14,13 @@ use native.Mathlib.Decide.{decLt}
 use native.Mathlib.Omega.{arith}
 use lib.Dec.{leb, ltb}
 use lib.ListN.{length}
-use Rattle.lists.specs.Places.{every, tab, at}
+use Rattle.lists.specs.Places.{tab, at}
 use Rattle.lists.proofs.Tests.{every-at, every-of}
 use Rattle.lists.proofs.Tabs.{tab-length, tab-at, is-tab}
 use Rattle.lists.proofs.Parts.{at-past}
 use Rattle.field.specs.Residues.{Residues}
 use Rattle.field.specs.Rows.{plusTimes, allBelow}
 use borrow.Author.Tests.{lt-leb, le-leb, lt-ltb, le-ltb, ltb-true}
-
-and-false : (a : Bool) → (a && false) ≡ false
-and-false true = refl
-and-false false = refl
 
 pub below-joined : (a b r q : ℕ) → r ≡ max a b → ltb r q ≡ (ltb a q && ltb b q)
 below-joined a b r q e = elim (decLt a q) [

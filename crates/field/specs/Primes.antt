@@ -1,4 +1,4 @@
--- 01, "The plan": "p is an odd prime from 3 to 251."
+-- 01, "The plan": "p is an odd prime from 3 to 251." Stands on `every` of `lists`.
 --     Prime p       p is above 1, and no d with 1 < d < p divides it
 --     isPrime p     the same as a test
 --     oddPrime p    p is an odd prime from 3 to 251, as a test; `Rattle.field.proofs.PrimeTable.oddPrime-means` says that it is

@@ -1,4 +1,5 @@
--- Arithmetic modulo p, and the two tables of 01 that make a product of two bootstraps.
+-- Arithmetic modulo p (01, "The plan": p, and "All are residues 0 to p−1"), and the two tables of 01, "The written program", that make a
+-- product of two bootstraps.
 --     Modulus p        2 ≤ p ≤ 251: what the arithmetic needs of p; that p is prime is asked only where inverses are used
 --     Residues p xs    each place of xs is below p ("All are residues 0 to p−1")
 --     inverse p a      a to the power p - 2, modulo p: for a prime p the inverse of a

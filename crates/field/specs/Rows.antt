@@ -1,14 +1,16 @@
--- Operations on rows of residues, each place by its formula.
+-- Operations on rows of residues, each place by its formula. They are what rows of a plan (01, "The plan") and stores ("The store") are made
+-- with. Stands on the lists by place of `lists`.
 --     dot ws xs n              the first n places of ws, each times its place of xs, summed
 --     plusMultiple p g xs ys   xs plus g times ys, place by place, modulo p
 --     multiple p g ys          g times ys, place by place, modulo p
 --     plusTimes g xs ys        xs plus g times ys, place by place, not reduced
 --     remainders p xs          xs modulo p, place by place
+--     Room k xs                each place of xs has room for k more in 32 bits
 --     allBelow p xs            each place of xs is below p, as a test
 --     allWithin bs xs          no place of xs is above its place of bs, as a test
 use mathlib.Core.Bool.{Bool}
 use mathlib.Core.List.{List}
-use Prim.Native.Nat.{ℕ, _+_, _*_, _%_}
+use Prim.Native.Nat.{ℕ, _+_, _*_, _%_, _<_}
 use lib.Dec.{leb, ltb}
 use lib.ListN.{length}
 use Rattle.lists.specs.Places.{sum, tab, every, at}
@@ -27,6 +29,9 @@ plusTimes g xs ys = tab (length xs) (λ j. at xs j + g * at ys j)
 
 abbrev pub remainders : ℕ → List ℕ → List ℕ
 remainders p xs = tab (length xs) (λ j. at xs j % p)
+
+abbrev pub Room : ℕ → List ℕ → Type 0
+Room k xs = (j : ℕ) → at xs j + k < 4294967296
 
 abbrev pub allBelow : ℕ → List ℕ → Bool
 allBelow p xs = every (λ j. ltb (at xs j) p) (length xs)

@@ -1,7 +1,7 @@
 -- The residual with its sums deferred: row after row is subtracted in full width, and one reduction at the end gives the residual.
 --     left-zero             left of its diagonal a row is zero
 --     row-zero              a row of a reduced store that begins with 0 on the diagonal is zero
---     part-residues         a part of a list of residues is one
+--     part-each             what each place of a list has, and 0 too, each place of a part of it has
 --     zeros-at              what stands in a list of zeros
 --     Subtracted            the state after q rows: the sums by place, whether they stand in one list or in two
 --     subtracted-none, subtracted-next, subtracted-all      before the first row, a row more, and after the last
@@ -25,8 +25,8 @@ use Rattle.lists.specs.Places.{sum, tab, at}
 use Rattle.lists.proofs.Sums.{sum-zero, sum-next, sum-le}
 use Rattle.lists.proofs.Tabs.{tab-length, tab-at, tab-ext, is-tab}
 use Rattle.lists.proofs.Parts.{part-length, part-at, at-past}
-use Rattle.field.specs.Residues.{Modulus, Residues}
-use Rattle.field.specs.Rows.{plusTimes, remainders}
+use Rattle.field.specs.Residues.{Modulus}
+use Rattle.field.specs.Rows.{plusTimes, remainders, Room}
 use Rattle.field.proofs.Modular.{cong-add, sum-cong, mul-mod-l}
 use Rattle.store.specs.Elimination.{ZeroRow, Reduced, residual, cells}
 use Rattle.store.specs.Stages.{Ready, Line, deferred, factor, Poured}
@@ -38,10 +38,10 @@ left-zero p C S red q j l h = ⊎-elim (λ z. z j (omega arith)) (λ v. v .left 
 pub row-zero : (p C : ℕ) (S : ℕ → ℕ → ℕ) → Reduced p C S → (q : ℕ) → q < C → S q q ≡ 0 → ZeroRow C S q
 row-zero p C S red q l e = ⊎-elim (λ z. z) (λ v. absurd (omega (arith, v .one))) (red .rows q l)
 
-pub part-residues : (b : ℕ) (xs : List ℕ) (a l : ℕ) → 0 < b → Residues b xs → Residues b (take l (drop a xs))
-part-residues b xs a l pos h i = elim (decLt i l) [
+pub part-each : (Q : ℕ → Type 0) (xs : List ℕ) (a l : ℕ) → Q 0 → ((i : ℕ) → Q (at xs i)) → (i : ℕ) → Q (at (take l (drop a xs)) i)
+part-each Q xs a l none h i = elim (decLt i l) [
   | yes k ↦ rw (part-at xs a l i k) (h (a + i))
-  | no k ↦ rw (at-past (take l (drop a xs)) i (rw length-take (omega arith))) pos
+  | no k ↦ rw (at-past (take l (drop a xs)) i (rw length-take (omega arith))) none
 ]
 
 pub zeros-at : (n : ℕ) (xs : List ℕ) → xs ≡ tab n (λ _. 0) → (j : ℕ) → at xs j ≡ 0
@@ -86,7 +86,7 @@ module _ (p C : ℕ) (store e : List ℕ) where
     pos : 0 < p
     pos = omega (arith, ready .modulus .0)
 
-    small : (q j : ℕ) → q ≤ C → j ≤ C → deferred p (cells C store) (at e) q j < 4294901761
+    small : (q j : ℕ) → q ≤ C → j ≤ C → deferred p (cells C store) (at e) q j + 65535 < 4294967296
     unfolding deferred
     small q j l k =
         omega (arith, line .residues j, ready .modulus .1, ready .limit, sum-le (λ q. (p - at e q) % p * cells C store q j) (250 * 250) q term, mul-le-mul-right 62500 (bound))
@@ -101,8 +101,8 @@ module _ (p C : ℕ) (store e : List ℕ) where
             mul-le-mul a b
 
     module _ {q begin : ℕ} {f : ℕ → ℕ} (w : Subtracted p C store e q begin f) where
-      pub subtracted-room : (b : ℕ) → 4294901761 ≤ b → (acc : List ℕ) → length acc ≡ C + 1 → ((j : ℕ) → j ≤ C → at acc j ≤ f j) → Residues b acc
-      subtracted-room b most acc n h i = elim (decLt i (C + 1)) [
+      pub subtracted-room : (k : ℕ) → k ≤ 65535 → (acc : List ℕ) → length acc ≡ C + 1 → ((j : ℕ) → j ≤ C → at acc j ≤ f j) → Room k acc
+      subtracted-room k most acc n h i = elim (decLt i (C + 1)) [
         | yes l ↦ omega (arith, h i (omega arith), w .sums i (omega arith), small q i (w .within) (omega arith))
         | no l ↦ rw (at-past acc i (omega arith)) (omega arith)
       ]
@@ -237,8 +237,8 @@ module _ (p C : ℕ) (store e : List ℕ) where
         subtracted-all p C store e (w .both) h (ap length k ∙ poured-length) (λ j l. ap (λ (xs : List ℕ). at xs j) k ∙ poured-at j l)
 
     module _ (ready : Ready p C store) (line : Line p C e) where
-      pub held-small : Residues 4294901761 acc
-      held-small = subtracted-room p C store e ready line (w .both) 4294901761 (omega arith) acc (w .wide) (λ j l. omega arith)
+      pub held-small : Room 65535 acc
+      held-small = subtracted-room p C store e ready line (w .both) 65535 (omega arith) acc (w .wide) (λ j l. omega arith)
 
       module _ (l : q < C) (g : ℕ) (eg : g ≡ factor p (at e q) (at store (begin + q))) (some : 0 < left) where
         product : (j : ℕ) → g * at (rowTail C store begin q) j ≤ p * p

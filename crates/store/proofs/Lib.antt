@@ -1,4 +1,5 @@
--- The theory of elimination, which knows the definitions of specs/ and no code; then, from Zeros on, the laws of the code's loops.
+-- The theory of elimination, which knows the definitions of specs/ and no code; then, from Zeros on, the laws of the code's loops; last, from
+-- StoreCalls on, what holds of the calls.
 pub mod Leads
 pub mod Bytes
 pub mod Combinations
@@ -12,7 +13,6 @@ pub mod ReadingOff
 pub mod Contradictions
 pub mod Implications
 pub mod Uniqueness
-pub mod Filings
 pub mod Zeros
 pub mod Pasting
 pub mod OneReading
@@ -23,3 +23,5 @@ pub mod Outcomes
 pub mod EntryEquations
 pub mod StoreCalls
 pub mod Readiness
+pub mod Filings
+pub mod OneReducedForm

@@ -8,7 +8,7 @@
 -- A row with a 1 on the diagonal has nothing below it in that column, since the rows below are zero left of their diagonal.
 -- Assumes nothing.
 use mathlib.Core.Path.{_≡_, refl, sym, ap, ap₂, _∙_}
-use mathlib.Core.Bool.{Bool, true, false, false≢true}
+use mathlib.Core.Bool.{true, false, false≢true, not-eq-not}
 use mathlib.Core.Logic.{_⊎_, inl, inr, ⊎-elim, ⊎-map, _≢_}
 use mathlib.Core.List.{List}
 use Prim.Native.Nat.{ℕ, _+_, _-_, _*_, _≤_, _<_}
@@ -226,9 +226,5 @@ module _ (p C : ℕ) (store : List ℕ) (low : 2 ≤ p) (fits : length store ≡
 
     pub passed-not : rowFits (q - 1) bounds row ≡ false → false ≡ isReduced p C (cells C store)
     passed-not h =
-        sym (decided (isReduced p C (cells C store)) (λ t.
+        sym (not-eq-not {a = isReduced p C (cells C store)} {b = false} .0 (λ t.
         false≢true (sym h ∙ fits-good (good-of p C (cells C store) low last (isReduced-means p C (cells C store) .0 t) (q - 1) (omega (arith, w .within))))))
-      where
-        decided : (b : Bool) → (b ≡ true → ⊥) → b ≡ false
-        decided true h = absurd (h refl)
-        decided false h = refl

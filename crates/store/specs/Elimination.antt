@@ -1,20 +1,25 @@
--- 01, "The store": equations, reduced form, filing in closed form, reading off.
+-- 01, "The store": equations, reduced form, filing in closed form, reading off. Stands on `inverse` of `field`.
 -- An equation is read by place: places 0 to C - 1 are its coefficients, place C is its right-hand side. A store is read by row and
 -- column, S q j, each of its C rows an equation. Because the store is in reduced form, all multipliers of an elimination are known at
 -- once, so filing is a formula and not an algorithm.
 --     Satisfies p C e β      β satisfies the equation e: its coefficients times β, summed, are its right-hand side modulo p
 --     Solves p C S β         β satisfies each row of the store
---     Reduced p C S          01's reduced form
---     isReduced p C S        the same as a test
+--     ZeroRow C S q          row q is all zero
+--     Pivot C S q            row q's first nonzero coefficient is a 1 in column q, and column q is zero in every other row
+--     Reduced p C S          01's reduced form: all bytes below p, each row of these two kinds
+--     isZeroRow, isPivot, isReduced     the same as tests
 --     residual p C S e       e less, for each row q, e's coefficient q times that row
 --     lead f n               the first of n places at which f is not 0, else n
 --     normal p f c           f times the inverse of its place c
 --     put p S N c            the equation N put in as row c, and column c cleared from every other row
---     outcome p C S e        what filing e answers: new with its pivot column, implied, or a contradiction
+--     Outcome                new with the pivot column, implied, or a contradiction
+--     outcome p C S e        what filing e answers
 --     after p C S e          the store after filing e
 --     readOff C S q          coefficient q read off: the right-hand side of row q
+--     cells C store          a store's bytes read by row and column
+--     flat C S               the bytes of such a reading
 use mathlib.Core.Path.{_≡_}
-use mathlib.Core.Bool.{Bool, true, false, cond, _&&_, _||_}
+use mathlib.Core.Bool.{Bool, cond, _&&_, _||_}
 use mathlib.Core.Logic.{_⊎_, _≢_}
 use Prim.Native.Nat.{ℕ, zero, suc, _+_, _-_, _*_, _/_, _%_, _≤_, _<_}
 use lib.Dec.{eqb, ltb}
@@ -28,11 +33,9 @@ Satisfies p C e β = sum (λ j. e j * β j) C % p ≡ e C % p
 abbrev pub Solves : ℕ → ℕ → (ℕ → ℕ → ℕ) → (ℕ → ℕ) → Type 0
 Solves p C S β = (q : ℕ) → q < C → Satisfies p C (S q) β
 
--- row q is all zero
 abbrev pub ZeroRow : ℕ → (ℕ → ℕ → ℕ) → ℕ → Type 0
 ZeroRow C S q = (j : ℕ) → j ≤ C → S q j ≡ 0
 
--- row q's first nonzero coefficient is a 1 in column q, and column q is zero in every other row
 pub record Pivot (C : ℕ) (S : ℕ → ℕ → ℕ) (q : ℕ) : Type 0 where
   pub left : (j : ℕ) → j < q → S q j ≡ 0
   pub one : S q q ≡ 1
@@ -42,7 +45,6 @@ pub record Reduced (p C : ℕ) (S : ℕ → ℕ → ℕ) : Type 0 where
   pub residues : (q j : ℕ) → q < C → j ≤ C → S q j < p
   pub rows : (q : ℕ) → q < C → ZeroRow C S q ⊎ Pivot C S q
 
--- the same as tests
 unfoldable pub isZeroRow : ℕ → (ℕ → ℕ → ℕ) → ℕ → Bool
 isZeroRow C S q = every (λ j. eqb (S q j) 0) (C + 1)
 
@@ -82,7 +84,7 @@ after p C S e =
 abbrev pub readOff : ℕ → (ℕ → ℕ → ℕ) → ℕ → ℕ
 readOff C S q = S q C
 
--- a store's bytes: "C rows of C+1 bytes", row after row; read by row and column, and written from such a reading
+-- "C rows of C+1 bytes", row after row
 abbrev pub cells : ℕ → List ℕ → ℕ → ℕ → ℕ
 cells C store q j = at store (q * (C + 1) + j)
 

@@ -1,4 +1,4 @@
--- The definitions of `store`: elimination, the test of reduced form in one reading, the stages of a filing, its calls, and lists of filings.
+-- The definitions of `store`: elimination, the test of reduced form in one reading, the stages of a filing, the empty store, and the calls.
 pub mod Elimination
 pub mod Reading
 pub mod Stages

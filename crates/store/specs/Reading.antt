@@ -1,5 +1,6 @@
--- The test of reduced form in one reading of the store, from the last row to the first: a state goes in with each row and comes out, and
--- sees no row again. The state is what each column may hold at most.
+-- 01's reduced form ("The store") tested in one reading of the store, from the last row to the first, as `is_reduced` does it: a state
+-- goes in with each row and comes out, and sees no row again. The state is what each column may hold at most. `OneReading` of proofs/ shows
+-- that all rows fit exactly where `isReduced` of `Elimination` holds. Stands on the row tests of `field`.
 --     bound p d                 what the rows above a row with d on the diagonal may hold in its column: nothing over a pivot
 --     rowFits q bounds row      row q fits: with 0 on the diagonal it is all zero, else it is within the bounds, with 1 for the diagonal
 use mathlib.Core.Bool.{Bool, cond}

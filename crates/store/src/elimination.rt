@@ -4,7 +4,7 @@ ghost use Prim.Native.Nat.{ℕ, _+_, _-_, _*_, _≤_, _<_};
 ghost use lib.ListN.{length};
 ghost use Rattle.lists.specs.Places.{tab, at};
 ghost use Rattle.field.specs.Residues.{Modulus, Residues};
-ghost use Rattle.field.specs.Rows.{plusMultiple};
+ghost use Rattle.field.specs.Rows.{plusMultiple, Room};
 ghost use Rattle.plan.specs.Numbers.{Within, columns};
 ghost use Rattle.plan.specs.Parts.{Lent};
 ghost use Rattle.store.specs.Elimination as specs;
@@ -59,7 +59,7 @@ fn defer_wide(acc: &mut [u32], store: &[u8], e: &[u8], c: usize, p: u8)
 // Where short has no room for a row more, it is poured into acc. Answers for how many rows there is room.
 fn make_room(acc: &mut [u32], short: &mut [u16], left: u32, rows: u32) -> u32
     requires { ⌜ length (now short) ≡ length (now acc) ⌝ }
-    requires { ⌜ Residues 4294901761 (now acc) ⌝ }
+    requires { ⌜ Room 65535 (now acc) ⌝ }
     ensures { λ r. ⌜ stages.Poured (now (acc .entry)) (now (short .entry)) left rows (now (acc .exit)) (now (short .exit)) r ⌝ }
 {
     if 0 < left {
@@ -104,7 +104,7 @@ fn defer(acc: &mut [u32], store: &[u8], e: &[u8], c: usize, p: u8)
     ensures { λ _. ⌜ now (acc .exit) ≡ tab (c + 1) (deferred p (cells c (now (store .entry))) (at (now (e .entry))) c) ⌝ }
 {
     if p < 128 {
-        let mut short = [0u16; 1025];
+        let mut short = [0u16; Plan::COLUMNS + 1];
         let width = c + 1;
         defer_short(acc, &mut short[..width], store, e, c, p);
         return;
@@ -119,7 +119,7 @@ fn residual(out: &mut [u8], store: &[u8], e: &[u8], c: usize, p: u8)
     requires { ⌜ length (now out) ≡ c + 1 ⌝ }
     ensures { λ _. ⌜ now (out .exit) ≡ tab (c + 1) (specs.residual p c (cells c (now (store .entry))) (at (now (e .entry)))) ⌝ }
 {
-    let mut acc = [0u32; 1025];
+    let mut acc = [0u32; Plan::COLUMNS + 1];
     let width = c + 1;
     defer(&mut acc[..width], store, e, c, p);
     field::reduce(out, &acc[..width], p);
@@ -181,7 +181,7 @@ fn put_row(store: &mut [u8], res: &[u8], k: usize, c: usize, p: u8)
     requires { ⌜ specs.ZeroRow c (cells c (now store)) k ⌝ }
     ensures { λ _. ⌜ now (store .exit) ≡ flat c (specs.put p (cells c (now (store .entry))) (specs.normal p (at (now (res .entry))) k) k) ⌝ }
 {
-    let mut pivot = [0u8; 1025];
+    let mut pivot = [0u8; Plan::COLUMNS + 1];
     let width = c + 1;
     let g = field::inverse(res[k], p);
     field::set_multiple(&mut pivot[..width], res, g, p);
@@ -198,7 +198,7 @@ pub fn file_equation(store: &mut [u8], e: &[u8], c: usize, p: u8) -> Filed
     ensures { λ r. ⌜ r ≡ calls.answered 0 (specs.outcome p c (cells c (now (store .entry))) (at (now (e .entry)))) ⌝ }
     ensures { λ r. ⌜ now (store .exit) ≡ flat c (specs.after p c (cells c (now (store .entry))) (at (now (e .entry)))) ⌝ }
 {
-    let mut res = [0u8; 1025];
+    let mut res = [0u8; Plan::COLUMNS + 1];
     let width = c + 1;
     residual(&mut res[..width], store, e, c, p);
     let k = lead(&res[..c]);
@@ -229,7 +229,7 @@ pub fn file_entry(
     ensures { λ r. ⌜ r ≡ calls.answered 0 (specs.outcome (plan .p) (columns plan) (cells (columns plan) (now (store .entry))) (calls.equation plan (now (weights .entry)) (now (tables .entry)) (now (d .entry)) entry value)) ⌝ }
     ensures { λ r. ⌜ now (store .exit) ≡ calls.filed plan (now (weights .entry)) (now (tables .entry)) (now (d .entry)) (now (store .entry)) entry value ⌝ }
 {
-    let mut row = [0u8; 1025];
+    let mut row = [0u8; Plan::COLUMNS + 1];
     let c = plan.columns();
     plan::fill_row(plan, weights, tables, d, entry, &mut row[..c]);
     row[c] = value;

@@ -6,6 +6,7 @@ ghost use Rattle.lists.specs.Places.{tab, at};
 ghost use Rattle.field.specs.Residues.{Modulus};
 ghost use Rattle.store.specs.Elimination.{isReduced, cells};
 ghost use Rattle.store.specs.Reading.{rowFits, bound};
+use plan::Plan;
 
 // Row q, given what each of its places may be at most: 0 left of the diagonal and in the column of a pivot below, else p - 1. With 0 on
 // the diagonal all of it is zero. Else a 1 is there, since no more may be. Then column q's own bound is set for the rows above.
@@ -56,7 +57,7 @@ pub fn is_reduced(store: &[u8], c: usize, p: u8) -> bool
     requires { ⌜ length (now store) ≡ c * (c + 1) ⌝ }
     ensures { λ r. ⌜ r ≡ isReduced p c (cells c (now (store .entry))) ⌝ }
 {
-    let mut bounds = [0u8; 1025];
+    let mut bounds = [0u8; Plan::COLUMNS + 1];
     let width = c + 1;
     pass_rows(&mut bounds[..width], store, c, p)
 }

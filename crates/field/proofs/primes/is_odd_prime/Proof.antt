@@ -27,7 +27,9 @@ cast-if1 c = omega (arith, prime-small (c .before .loop .i) (c .loop-test .taken
 
 returns : tie.Need-returns Inv-loop μ-loop
 unfolding primes
-returns c = sym (ap not (present (c .before .before .before .args .p) (c .before .before .loop .i) (c .before .loop-test .taken) (c .if1 .taken))) ∙ member-is (c .before .before .before .args .p)
+returns c =
+    let args = c .before .before .before .args in
+    sym (ap not (present (args .p) (c .before .before .loop .i) (c .before .loop-test .taken) (c .if1 .taken))) ∙ member-is (args .p)
 
 add-i : tie.Need-add-i Inv-loop μ-loop
 add-i c = omega arith
@@ -37,7 +39,9 @@ loop-less c = omega arith
 
 loop-again : tie.Need-loop-again Inv-loop μ-loop
 unfolding primes
-loop-again c = (omega arith, absent-next (c .before .before .before .args .p) (c .before .before .loop .i) (c .before .before .loop .inv .1) (c .if1 .left))
+loop-again c =
+    let args = c .before .before .before .args in
+    (omega arith, absent-next (args .p) (c .before .before .loop .i) (c .before .before .loop .inv .1) (c .if1 .left))
 
 returns-2 : tie.Need-returns-2 Inv-loop μ-loop
 returns-2 c =

@@ -1,8 +1,8 @@
 -- `field::residues::cell` meets its contract: v is below 65536, so q is v / p or one less (`Reduction`), and the two returns are the
 -- two sides of the conditional subtraction. Assumes nothing.
-use mathlib.Core.Path.{_≡_, refl}
+use mathlib.Core.Path.{refl}
 use Prim.Native.Nat.{ℕ, _+_, _*_, _/_, _≤_, _<_}
-use native.Mathlib.Nat.{mul-le-mul, mul-lt-mul-of-pos-right, mul-le-mul-left}
+use native.Mathlib.Nat.{mul-le-mul}
 use native.Mathlib.Omega.{arith}
 use borrow.Author.Needs.{needs}
 use Rattle.field.proofs.Reduction.{quotient-low, quotient-high, below, above, reciprocal-small}

@@ -1,6 +1,6 @@
 -- `field::residues::inverse` meets its contract: power times base to the e stays a to the p - 2 modulo p (`Powers`). Assumes nothing.
-use mathlib.Core.Path.{_≡_, refl, sym, ap, ap₂, _∙_}
-use Prim.Native.Nat.{ℕ, _+_, _-_, _*_, _/_, _%_, _^_, _<_, _≤_}
+use mathlib.Core.Path.{_≡_, sym, ap, ap₂, _∙_}
+use Prim.Native.Nat.{ℕ, _+_, _-_, _*_, _/_, _%_, _^_, _<_}
 use native.Mathlib.Nat.{one-mul, mul-one, pow-zero, mod-lt, mod-eq-of-lt}
 use native.Mathlib.Omega.{arith}
 use Rattle.field.specs.Residues as specs
@@ -27,31 +27,41 @@ odd-factor-requires : tie.Need-odd-factor-requires Inv-loop μ-loop
 odd-factor-requires c κs = tt
 
 cell-requires : tie.Need-cell-requires Inv-loop μ-loop
-cell-requires c κs = (c .before .before .before .before .pre .0, (c .before .before .before .reciprocal .ensures, (omega arith, c .before .before .loop .inv .0, omega arith)))
+cell-requires c κs =
+    let pre = c .before .before .before .before .pre in
+    let reciprocal = c .before .before .before .reciprocal in
+    (pre .0, (reciprocal .ensures, (omega arith, c .before .before .loop .inv .0, omega arith)))
 
 cell-requires-2 : tie.Need-cell-requires-2 Inv-loop μ-loop
-cell-requires-2 c κs = (c .before .before .before .before .before .pre .0, (c .before .before .before .before .reciprocal .ensures, (omega arith, c .before .before .before .loop .inv .1, omega arith)))
+cell-requires-2 c κs =
+    let pre = c .before .before .before .before .before .pre in
+    let reciprocal = c .before .before .before .before .reciprocal in
+    let loop = c .before .before .before .loop in
+    (pre .0, (reciprocal .ensures, (omega arith, loop .inv .1, omega arith)))
 
 loop-less : tie.Need-loop-less Inv-loop μ-loop
 loop-less c = omega arith
 
 loop-again : tie.Need-loop-again Inv-loop μ-loop
 loop-again c =
-    let p = c .before .before .before .before .before .before .args .p in
+    let args = c .before .before .before .before .before .before .args in
+    let loop = c .before .before .before .before .loop in
+    let p = args .p in
     let pos : 0 < p = omega arith in
-    let turn : ((c .before .cell .result) * (c .cell2 .result) ^ (c .before .before .before .before .loop .e / 2)) % p ≡ (c .before .before .before .before .loop .power * c .before .before .before .before .loop .base ^ c .before .before .before .before .loop .e) % p
-    = ap₂ (λ (x y : ℕ). (x * y ^ (c .before .before .before .before .loop .e / 2)) % p)
-    (c .before .cell .ensures ∙ ap (λ (g : ℕ). (0 + g * c .before .before .before .before .loop .power) % p) (c .before .before .odd-factor .ensures .0))
+    let turn : ((c .before .cell .result) * (c .cell2 .result) ^ (loop .e / 2)) % p ≡ (loop .power * loop .base ^ loop .e) % p
+    = ap₂ (λ (x y : ℕ). (x * y ^ (loop .e / 2)) % p)
+    (c .before .cell .ensures ∙ ap (λ (g : ℕ). (0 + g * loop .power) % p) (c .before .before .odd-factor .ensures .0))
     (c .cell2 .ensures)
-    ∙ square-turn p (c .before .before .before .before .loop .power) (c .before .before .before .before .loop .base) (c .before .before .before .before .loop .e) in
-    (rw (c .before .cell .ensures) (mod-lt _ pos), rw (c .cell2 .ensures) (mod-lt _ pos), turn ∙ c .before .before .before .before .loop .inv .2)
+    ∙ square-turn p (loop .power) (loop .base) (loop .e) in
+    (rw (c .before .cell .ensures) (mod-lt _ pos), rw (c .cell2 .ensures) (mod-lt _ pos), turn ∙ loop .inv .2)
 
 returns : tie.Need-returns Inv-loop μ-loop
 unfolding specs.inverse
 returns c =
+    let args = c .before .before .before .args in
     let e : c .before .loop .e ≡ 0 = omega arith in
     sym (mod-eq-of-lt (c .before .loop .inv .0))
-    ∙ ap (λ (n : ℕ). n % c .before .before .before .args .p) (sym (mul-one _) ∙ ap (λ (n : ℕ). c .before .loop .power * n) (sym (pow-zero (c .before .loop .base)) ∙ ap (λ (n : ℕ). c .before .loop .base ^ n) (sym e)))
+    ∙ ap (λ (n : ℕ). n % args .p) (sym (mul-one _) ∙ ap (λ (n : ℕ). c .before .loop .power * n) (sym (pow-zero (c .before .loop .base)) ∙ ap (λ (n : ℕ). c .before .loop .base ^ n) (sym e)))
     ∙ c .before .loop .inv .2
 
 pub inverse-spec : {M : Type 1} → statement M

@@ -1,6 +1,6 @@
 -- `field::residues::odd_factor` meets its contract: e % 2 is 1 or 0, and b to that power is b or 1. Assumes nothing.
-use mathlib.Core.Path.{_≡_, sym, ap, _∙_}
-use Prim.Native.Nat.{ℕ, _%_, _^_}
+use mathlib.Core.Path.{_≡_, sym}
+use Prim.Native.Nat.{_%_}
 use native.Mathlib.Nat.{pow-zero}
 use native.Mathlib.Omega.{arith}
 use Rattle.field.proofs.Powers.{pow-one}

@@ -1,11 +1,11 @@
 -- `field::residues::remainder` meets its contract: q is v / p or one less (`Reduction`), and the two returns are the two sides of the
 -- conditional subtraction. Assumes nothing.
-use mathlib.Core.Path.{_≡_, refl}
+use mathlib.Core.Path.{refl}
 use Prim.Native.Nat.{ℕ, _+_, _*_, _/_, _≤_, _<_}
 use native.Mathlib.Nat.{mul-le-mul}
 use native.Mathlib.Omega.{arith}
 use borrow.Author.Needs.{needs}
-use Rattle.field.proofs.Reduction.{quotient-low, quotient-high, below, above, reciprocal-small}
+use Rattle.field.proofs.Reduction.{quotient-low, quotient-high, below, above}
 use Rattle.field.proofs.residues.remainder.Statement.{statement}
 use Rattle.field.proofs.residues.remainder.Tie as tie
 

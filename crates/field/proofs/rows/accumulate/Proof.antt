@@ -17,10 +17,14 @@ Inv-loop acc₀ ys g j₀ acc j = Written (length acc₀) (λ k. at acc₀ k + g
 abbrev μ-loop : tie.MeasureT-loop
 μ-loop acc₀ ys g j₀ acc j = length acc₀ - j
 
-term-small : (c : tie.After-shared-slice-known Inv-loop μ-loop) → c .before .before .before .before .before .args .g * at (c .before .before .before .before .before .args .ys .now) (c .before .before .before .loop .j) ≤ 255 * 255
+term-small : (c : tie.After-shared-slice-known Inv-loop μ-loop) →
+    let args = c .before .before .before .before .before .args in
+    let loop = c .before .before .before .loop in
+    args .g * at (args .ys .now) (loop .j) ≤ 255 * 255
 term-small c =
+    let loop = c .before .before .before .loop in
     let s = c .before .before .before .before .before in
-    let j = c .before .before .before .loop .j in
+    let j = loop .j in
     let a : s .args .g ≤ 255 = omega arith in
     let b : at (s .args .ys .now) j ≤ 255 = omega (arith, c .shared-slice-known .given j) in
     mul-le-mul a b
@@ -41,13 +45,18 @@ shared-slice-read-acc : tie.Need-shared-slice-read-acc Inv-loop μ-loop
 shared-slice-read-acc c = omega arith
 
 cast-acc : tie.Need-cast-acc Inv-loop μ-loop
-cast-acc c = omega (arith, c .shared-slice-known .given (c .before .before .before .loop .j))
+cast-acc c =
+    let loop = c .before .before .before .loop in
+    omega (arith, c .shared-slice-known .given (loop .j))
 
 mul-acc-2 : tie.Need-mul-acc-2 Inv-loop μ-loop
 mul-acc-2 c = omega (arith, term-small (c))
 
 add-acc : tie.Need-add-acc Inv-loop μ-loop
-add-acc c = omega (arith, term-small (c), unwritten (c .before .before .before .loop .inv) (c .before .before .before .loop .j) (le-refl (c .before .before .before .loop .j)), c .before .before .before .before .before .pre .1 (c .before .before .before .loop .j))
+add-acc c =
+    let loop = c .before .before .before .loop in
+    let pre = c .before .before .before .before .before .pre in
+    omega (arith, term-small (c), unwritten (loop .inv) (loop .j) (le-refl (loop .j)), pre .1 (loop .j))
 
 mul-acc-3 : tie.Need-mul-acc-3 Inv-loop μ-loop
 mul-acc-3 c = omega arith
@@ -63,9 +72,11 @@ loop-less c = omega arith
 
 loop-again : tie.Need-loop-again Inv-loop μ-loop
 loop-again c =
-    let j = c .before .before .before .loop .j in
-    written-next (at (c .before .before .before .loop .acc) j + c .before .before .before .before .before .args .g * at (c .before .before .before .before .before .args .ys .now) j) (c .before .before .before .loop .inv) (omega arith)
-    (ap (λ (x : ℕ). x + c .before .before .before .before .before .args .g * at (c .before .before .before .before .before .args .ys .now) j) (unwritten (c .before .before .before .loop .inv) j (le-refl j)))
+    let loop = c .before .before .before .loop in
+    let args = c .before .before .before .before .before .args in
+    let j = loop .j in
+    written-next (at (loop .acc) j + args .g * at (args .ys .now) j) (loop .inv) (omega arith)
+    (ap (λ (x : ℕ). x + args .g * at (args .ys .now) j) (unwritten (loop .inv) j (le-refl j)))
 
 same-length : tie.Need-same-length Inv-loop μ-loop
 same-length c = c .before .loop .inv .same

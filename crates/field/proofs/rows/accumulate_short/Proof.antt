@@ -33,13 +33,21 @@ shared-slice-read-acc : tie.Need-shared-slice-read-acc Inv-loop μ-loop
 shared-slice-read-acc c = omega arith
 
 cast-acc : tie.Need-cast-acc Inv-loop μ-loop
-cast-acc c = omega (arith, c .shared-slice-known .given (c .before .before .before .loop .j))
+cast-acc c =
+    let loop = c .before .before .before .loop in
+    omega (arith, c .shared-slice-known .given (loop .j))
 
 mul-acc-2 : tie.Need-mul-acc-2 Inv-loop μ-loop
-mul-acc-2 c = omega (arith, c .before .before .before .before .before .pre .1 (c .before .before .before .loop .j))
+mul-acc-2 c =
+    let pre = c .before .before .before .before .before .pre in
+    let loop = c .before .before .before .loop in
+    omega (arith, pre .1 (loop .j))
 
 add-acc : tie.Need-add-acc Inv-loop μ-loop
-add-acc c = omega (arith, unwritten (c .before .before .before .loop .inv) (c .before .before .before .loop .j) (le-refl (c .before .before .before .loop .j)), c .before .before .before .before .before .pre .1 (c .before .before .before .loop .j))
+add-acc c =
+    let loop = c .before .before .before .loop in
+    let pre = c .before .before .before .before .before .pre in
+    omega (arith, unwritten (loop .inv) (loop .j) (le-refl (loop .j)), pre .1 (loop .j))
 
 mul-acc-3 : tie.Need-mul-acc-3 Inv-loop μ-loop
 mul-acc-3 c = omega arith
@@ -55,9 +63,11 @@ loop-less c = omega arith
 
 loop-again : tie.Need-loop-again Inv-loop μ-loop
 loop-again c =
-    let j = c .before .before .before .loop .j in
-    written-next (at (c .before .before .before .loop .acc) j + c .before .before .before .before .before .args .g * at (c .before .before .before .before .before .args .ys .now) j) (c .before .before .before .loop .inv) (omega arith)
-    (ap (λ (x : ℕ). x + c .before .before .before .before .before .args .g * at (c .before .before .before .before .before .args .ys .now) j) (unwritten (c .before .before .before .loop .inv) j (le-refl j)))
+    let loop = c .before .before .before .loop in
+    let args = c .before .before .before .before .before .args in
+    let j = loop .j in
+    written-next (at (loop .acc) j + args .g * at (args .ys .now) j) (loop .inv) (omega arith)
+    (ap (λ (x : ℕ). x + args .g * at (args .ys .now) j) (unwritten (loop .inv) j (le-refl j)))
 
 same-length : tie.Need-same-length Inv-loop μ-loop
 same-length c = c .before .loop .inv .same

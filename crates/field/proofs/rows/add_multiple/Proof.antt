@@ -1,9 +1,9 @@
 -- `field::rows::add_multiple` meets its contract: an in-place loop over `cell` (`Overwrite` of lists). Assumes nothing.
-use mathlib.Core.Path.{_≡_, refl, ap, _∙_}
-use Prim.Native.Nat.{ℕ, _+_, _-_, _*_, _%_, _<_}
+use mathlib.Core.Path.{refl, ap, _∙_}
+use Prim.Native.Nat.{ℕ, _+_, _-_, _*_, _%_}
 use native.Mathlib.Nat.{le-refl}
 use native.Mathlib.Omega.{arith}
-use lib.ListN.{length, set, length-set}
+use lib.ListN.{length}
 use Rattle.lists.specs.Places.{at}
 use Rattle.lists.proofs.Overwrite.{Written, written-none, written-next, unwritten, written-all}
 use Rattle.field.proofs.rows.add_multiple.Statement.{statement}
@@ -29,9 +29,12 @@ shared-slice-read-cell c = omega arith
 
 cell-requires : tie.Need-cell-requires Inv-loop μ-loop
 cell-requires c κs =
-    let j = c .before .before .before .loop .j in
-    let e = unwritten (c .before .before .before .loop .inv) j (le-refl j) in
-    (c .before .before .before .before .before .before .before .pre .0, (c .before .before .before .before .reciprocal .ensures, (rw e (c .before .before .before .before .before .before .before .pre .1 .1 .0 j), c .before .before .before .before .before .before .before .pre .1 .1 .1 .0 j, c .before .before .before .before .before .before .before .pre .1 .1 .1 .1)))
+    let loop = c .before .before .before .loop in
+    let pre = c .before .before .before .before .before .before .before .pre in
+    let reciprocal = c .before .before .before .before .reciprocal in
+    let j = loop .j in
+    let e = unwritten (loop .inv) j (le-refl j) in
+    (pre .0, (reciprocal .ensures, (rw e (pre .1 .1 .0 j), pre .1 .1 .1 .0 j, pre .1 .1 .1 .1)))
 
 slice-write-xs : tie.Need-slice-write-xs Inv-loop μ-loop
 slice-write-xs c = omega arith
@@ -43,7 +46,10 @@ loop-less : tie.Need-loop-less Inv-loop μ-loop
 loop-less c = omega arith
 
 loop-again : tie.Need-loop-again Inv-loop μ-loop
-loop-again c = written-next (c .cell .result) (c .before .before .before .before .loop .inv) (omega arith) (c .cell .ensures ∙ ap (λ (x : ℕ). (x + c .before .before .before .before .before .before .before .before .args .g * at (c .before .before .before .before .before .before .before .before .args .ys .now) (c .before .before .before .before .loop .j)) % c .before .before .before .before .before .before .before .before .args .p) (unwritten (c .before .before .before .before .loop .inv) (c .before .before .before .before .loop .j) (le-refl (c .before .before .before .before .loop .j))))
+loop-again c =
+    let loop = c .before .before .before .before .loop in
+    let args = c .before .before .before .before .before .before .before .before .args in
+    written-next (c .cell .result) (loop .inv) (omega arith) (c .cell .ensures ∙ ap (λ (x : ℕ). (x + args .g * at (args .ys .now) (loop .j)) % args .p) (unwritten (loop .inv) (loop .j) (le-refl (loop .j))))
 
 same-length : tie.Need-same-length Inv-loop μ-loop
 same-length c = c .before .loop .inv .same

@@ -37,15 +37,19 @@ loop-less : tie.Need-loop-less Inv-loop μ-loop
 loop-less c = omega arith
 
 loop-again : tie.Need-loop-again Inv-loop μ-loop
-loop-again c = (
-  omega arith,
-  below-joined _ _ (c .larger .result) (c .before .before .before .before .before .args .p) (c .larger .ensures)
-      ∙ ap (λ (b : Bool). b && ltb (getD (c .before .before .before .before .before .args .xs .now) (c .before .before .before .loop .j) 0) (c .before .before .before .before .before .args .p)) (c .before .before .before .loop .inv .1)
-      ∙ sym (every-next (λ k. ltb (getD (c .before .before .before .before .before .args .xs .now) k 0) (c .before .before .before .before .before .args .p)) (c .before .before .before .loop .j)),
-)
+loop-again c =
+    let args = c .before .before .before .before .before .args in
+    let loop = c .before .before .before .loop in (
+      omega arith,
+      below-joined _ _ (c .larger .result) (args .p) (c .larger .ensures)
+          ∙ ap (λ (b : Bool). b && ltb (getD (args .xs .now) (loop .j) 0) (args .p)) (loop .inv .1)
+          ∙ sym (every-next (λ k. ltb (getD (args .xs .now) k 0) (args .p)) (loop .j)),
+    )
 
 returns : tie.Need-returns Inv-loop μ-loop
-returns c = c .before .loop .inv .1 ∙ ap (every (λ k. ltb (getD (c .before .before .before .args .xs .now) k 0) (c .before .before .before .args .p))) (le-antisymm (c .before .loop .inv .0) (c .loop-test .left))
+returns c =
+    let args = c .before .before .before .args in
+    c .before .loop .inv .1 ∙ ap (every (λ k. ltb (getD (args .xs .now) k 0) (args .p))) (le-antisymm (c .before .loop .inv .0) (c .loop-test .left))
 
 pub all-below-spec : {M : Type 1} → statement M
 all-below-spec =

@@ -44,16 +44,19 @@ loop-less c = omega arith
 
 loop-again : tie.Need-loop-again Inv-loop μ-loop
 loop-again c =
+    let loop = c .before .before .before .before .before .loop in
     let s = c .before .before .before .before .before .before .before .before in
-    let j = c .before .before .before .before .before .loop .j in (
+    let j = loop .j in (
       omega arith,
       below-joined _ _ (c .larger .result) 1 (c .larger .ensures)
-          ∙ ap₂ _&&_ (c .before .before .before .before .before .loop .inv .1) (ap (λ (n : ℕ). ltb n 1) (c .before .excess .ensures) ∙ no-excess (at (s .args .xs .now) j) (at (s .args .bounds .now) j))
+          ∙ ap₂ _&&_ (loop .inv .1) (ap (λ (n : ℕ). ltb n 1) (c .before .excess .ensures) ∙ no-excess (at (s .args .xs .now) j) (at (s .args .bounds .now) j))
           ∙ sym (every-next (λ k. leb (at (s .args .xs .now) k) (at (s .args .bounds .now) k)) j),
     )
 
 returns : tie.Need-returns Inv-loop μ-loop
-returns c = c .before .loop .inv .1 ∙ ap (every (λ k. leb (at (c .before .before .before .before .args .xs .now) k) (at (c .before .before .before .before .args .bounds .now) k))) (le-antisymm (c .before .loop .inv .0) (c .loop-test .left))
+returns c =
+    let args = c .before .before .before .before .args in
+    c .before .loop .inv .1 ∙ ap (every (λ k. leb (at (args .xs .now) k) (at (args .bounds .now) k))) (le-antisymm (c .before .loop .inv .0) (c .loop-test .left))
 
 pub all-within-spec : {M : Type 1} → statement M
 all-within-spec =

@@ -1,7 +1,7 @@
 -- `field::rows::dot` meets its contract: the running total is the sum of the products so far, at most 65025 for each.
 -- Assumes nothing.
-use mathlib.Core.Path.{_≡_, refl, sym, ap, _∙_}
-use Prim.Native.Nat.{ℕ, _+_, _-_, _*_, _%_, _≤_, _<_}
+use mathlib.Core.Path.{_≡_, sym, ap, _∙_}
+use Prim.Native.Nat.{ℕ, _-_, _*_, _%_, _≤_}
 use native.Mathlib.Nat.{mul-le-mul, mod-lt, le-antisymm}
 use native.Mathlib.Omega.{arith}
 use lib.ListN.{length, getD}
@@ -16,10 +16,14 @@ Inv-loop ws xs p total₀ j₀ total j = (j ≤ length ws) × (total ≡ specs.d
 abbrev μ-loop : tie.MeasureT-loop
 μ-loop ws xs p total₀ j₀ total j = length ws - j
 
-term-small : (c : tie.After-shared-slice-known2 Inv-loop μ-loop) → getD (c .before .before .before .before .args .ws .now) (c .before .before .before .loop .j) 0 * getD (c .before .before .before .before .args .xs .now) (c .before .before .before .loop .j) 0 ≤ 255 * 255
+term-small : (c : tie.After-shared-slice-known2 Inv-loop μ-loop) →
+    let args = c .before .before .before .before .args in
+    let loop = c .before .before .before .loop in
+    getD (args .ws .now) (loop .j) 0 * getD (args .xs .now) (loop .j) 0 ≤ 255 * 255
 term-small c =
+    let loop = c .before .before .before .loop in
     let s = c .before .before .before .before in
-    let j = c .before .before .before .loop .j in
+    let j = loop .j in
     let a : getD (s .args .ws .now) j 0 ≤ 255 = omega (arith, c .before .shared-slice-known .given j) in
     let b : getD (s .args .xs .now) j 0 ≤ 255 = omega (arith, c .shared-slice-known2 .given j) in
     mul-le-mul a b
@@ -37,7 +41,9 @@ shared-slice-read-total-2 : tie.Need-shared-slice-read-total-2 Inv-loop μ-loop
 shared-slice-read-total-2 c = omega arith
 
 cast-total-2 : tie.Need-cast-total-2 Inv-loop μ-loop
-cast-total-2 c = omega (arith, c .shared-slice-known2 .given (c .before .before .before .loop .j))
+cast-total-2 c =
+    let loop = c .before .before .before .loop in
+    omega (arith, c .shared-slice-known2 .given (loop .j))
 
 mul-total : tie.Need-mul-total Inv-loop μ-loop
 mul-total c = omega (arith, term-small c)
@@ -53,7 +59,9 @@ loop-less c = omega arith
 
 loop-again : tie.Need-loop-again Inv-loop μ-loop
 loop-again c =
-    let e = sum-next (λ k. getD (c .before .before .before .before .args .ws .now) k 0 * getD (c .before .before .before .before .args .xs .now) k 0) (c .before .before .before .loop .j) in
+    let args = c .before .before .before .before .args in
+    let loop = c .before .before .before .loop in
+    let e = sum-next (λ k. getD (args .ws .now) k 0 * getD (args .xs .now) k 0) (loop .j) in
     (omega arith, omega arith, omega (arith, term-small c))
 
 rem-result : tie.Need-rem-result Inv-loop μ-loop

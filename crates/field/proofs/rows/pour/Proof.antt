@@ -28,13 +28,20 @@ mul-acc-2 : tie.Need-mul-acc-2 Inv-loop μ-loop
 mul-acc-2 c = omega arith
 
 slice-read-acc-2 : tie.Need-slice-read-acc-2 Inv-loop μ-loop
-slice-read-acc-2 c = omega (arith, c .before .before .before .loop .inv .1 .same)
+slice-read-acc-2 c =
+    let loop = c .before .before .before .loop in
+    omega (arith, loop .inv .1 .same)
 
 cast-acc : tie.Need-cast-acc Inv-loop μ-loop
-cast-acc c = omega (arith, c .slice-known2 .given (c .before .before .before .loop .j))
+cast-acc c =
+    let loop = c .before .before .before .loop in
+    omega (arith, c .slice-known2 .given (loop .j))
 
 add-acc : tie.Need-add-acc Inv-loop μ-loop
-add-acc c = omega (arith, c .slice-known2 .given (c .before .before .before .loop .j), unwritten (c .before .before .before .loop .inv .0) (c .before .before .before .loop .j) (le-refl (c .before .before .before .loop .j)), c .before .before .before .before .pre .1 (c .before .before .before .loop .j))
+add-acc c =
+    let loop = c .before .before .before .loop in
+    let pre = c .before .before .before .before .pre in
+    omega (arith, c .slice-known2 .given (loop .j), unwritten (loop .inv .0) (loop .j) (le-refl (loop .j)), pre .1 (loop .j))
 
 mul-acc-3 : tie.Need-mul-acc-3 Inv-loop μ-loop
 mul-acc-3 c = omega arith
@@ -46,7 +53,9 @@ mul-short : tie.Need-mul-short Inv-loop μ-loop
 mul-short c = omega arith
 
 slice-write-short : tie.Need-slice-write-short Inv-loop μ-loop
-slice-write-short c = omega (arith, c .before .before .before .loop .inv .1 .same)
+slice-write-short c =
+    let loop = c .before .before .before .loop in
+    omega (arith, loop .inv .1 .same)
 
 add-j : tie.Need-add-j Inv-loop μ-loop
 add-j c = omega arith
@@ -56,10 +65,12 @@ loop-less c = omega arith
 
 loop-again : tie.Need-loop-again Inv-loop μ-loop
 loop-again c =
-    let j = c .before .before .before .loop .j in (
-      written-next (at (c .before .before .before .loop .acc) j + at (c .before .before .before .loop .short) j) (c .before .before .before .loop .inv .0) (omega arith)
-          (ap₂ _+_ (unwritten (c .before .before .before .loop .inv .0) j (le-refl j)) (unwritten (c .before .before .before .loop .inv .1) j (le-refl j) ∙ sym (one-mul (at (c .before .before .before .before .args .short .now) j)))),
-      written-next 0 (c .before .before .before .loop .inv .1) (omega arith) refl,
+    let loop = c .before .before .before .loop in
+    let args = c .before .before .before .before .args in
+    let j = loop .j in (
+      written-next (at (loop .acc) j + at (loop .short) j) (loop .inv .0) (omega arith)
+          (ap₂ _+_ (unwritten (loop .inv .0) j (le-refl j)) (unwritten (loop .inv .1) j (le-refl j) ∙ sym (one-mul (at (args .short .now) j)))),
+      written-next 0 (loop .inv .1) (omega arith) refl,
     )
 
 same-length : tie.Need-same-length Inv-loop μ-loop

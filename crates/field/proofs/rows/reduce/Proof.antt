@@ -1,5 +1,5 @@
 -- `field::rows::reduce` meets its contract: a loop over `remainder` that writes out in place (`Overwrite` of lists). Assumes nothing.
-use mathlib.Core.Path.{_≡_, sym, _∙_}
+use mathlib.Core.Path.{sym, _∙_}
 use Prim.Native.Nat.{_-_, _%_}
 use native.Mathlib.Omega.{arith}
 use lib.ListN.{length}
@@ -18,7 +18,9 @@ wide-reciprocal-requires : tie.Need-wide-reciprocal-requires Inv-loop μ-loop
 wide-reciprocal-requires c κs = c .before .before .pre .0
 
 loop-holds : tie.Need-loop-holds Inv-loop μ-loop
-loop-holds c = written-none _ _ _ (sym (c .before .before .before .pre .1))
+loop-holds c =
+    let pre = c .before .before .before .pre in
+    written-none _ _ _ (sym (pre .1))
 
 mul-remainder : tie.Need-mul-remainder Inv-loop μ-loop
 mul-remainder c = omega arith
@@ -27,7 +29,10 @@ shared-slice-read-remainder : tie.Need-shared-slice-read-remainder Inv-loop μ-l
 shared-slice-read-remainder c = omega arith
 
 remainder-requires : tie.Need-remainder-requires Inv-loop μ-loop
-remainder-requires c κs = (c .before .before .before .before .before .before .pre .0, c .before .before .before .wide-reciprocal .ensures)
+remainder-requires c κs =
+    let pre = c .before .before .before .before .before .before .pre in
+    let wide-reciprocal = c .before .before .before .wide-reciprocal in
+    (pre .0, wide-reciprocal .ensures)
 
 slice-write-out : tie.Need-slice-write-out Inv-loop μ-loop
 slice-write-out c = omega arith
@@ -39,7 +44,9 @@ loop-less : tie.Need-loop-less Inv-loop μ-loop
 loop-less c = omega arith
 
 loop-again : tie.Need-loop-again Inv-loop μ-loop
-loop-again c = written-next (c .remainder .result) (c .before .before .before .loop .inv) (omega arith) (c .remainder .ensures)
+loop-again c =
+    let loop = c .before .before .before .loop in
+    written-next (c .remainder .result) (loop .inv) (omega arith) (c .remainder .ensures)
 
 same-length : tie.Need-same-length Inv-loop μ-loop
 same-length c = c .before .loop .inv .same ∙ sym (c .before .loop .inv .entry)

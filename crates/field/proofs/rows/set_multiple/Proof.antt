@@ -1,5 +1,5 @@
 -- `field::rows::set_multiple` meets its contract: an in-place loop over `cell` (`Overwrite` of lists). Assumes nothing.
-use mathlib.Core.Path.{_≡_, refl, sym, ap, _∙_}
+use mathlib.Core.Path.{sym, ap, _∙_}
 use Prim.Native.Nat.{ℕ, _-_, _*_, _%_}
 use native.Mathlib.Nat.{zero-add}
 use native.Mathlib.Omega.{arith}
@@ -19,13 +19,18 @@ reciprocal-requires : tie.Need-reciprocal-requires Inv-loop μ-loop
 reciprocal-requires c κs = c .before .before .pre .0
 
 loop-holds : tie.Need-loop-holds Inv-loop μ-loop
-loop-holds c = written-none _ _ _ (sym (c .before .before .before .pre .1 .0))
+loop-holds c =
+    let pre = c .before .before .before .pre in
+    written-none _ _ _ (sym (pre .1 .0))
 
 shared-slice-read-cell : tie.Need-shared-slice-read-cell Inv-loop μ-loop
 shared-slice-read-cell c = omega arith
 
 cell-requires : tie.Need-cell-requires Inv-loop μ-loop
-cell-requires c κs = (c .before .before .before .before .before .before .pre .0, (c .before .before .before .reciprocal .ensures, (omega arith, c .before .before .before .before .before .before .pre .1 .1 .0 (c .before .before .loop .j), c .before .before .before .before .before .before .pre .1 .1 .1)))
+cell-requires c κs =
+    let pre = c .before .before .before .before .before .before .pre in
+    let reciprocal = c .before .before .before .reciprocal in
+    (pre .0, (reciprocal .ensures, (omega arith, pre .1 .1 .0 (c .before .before .loop .j), pre .1 .1 .1)))
 
 slice-write-out : tie.Need-slice-write-out Inv-loop μ-loop
 slice-write-out c = omega arith
@@ -37,7 +42,10 @@ loop-less : tie.Need-loop-less Inv-loop μ-loop
 loop-less c = omega arith
 
 loop-again : tie.Need-loop-again Inv-loop μ-loop
-loop-again c = written-next (c .cell .result) (c .before .before .before .loop .inv) (omega arith) (c .cell .ensures ∙ ap (λ (x : ℕ). x % c .before .before .before .before .before .before .before .args .p) (zero-add _))
+loop-again c =
+    let loop = c .before .before .before .loop in
+    let args = c .before .before .before .before .before .before .before .args in
+    written-next (c .cell .result) (loop .inv) (omega arith) (c .cell .ensures ∙ ap (λ (x : ℕ). x % args .p) (zero-add _))
 
 same-length : tie.Need-same-length Inv-loop μ-loop
 same-length c = c .before .loop .inv .same ∙ sym (c .before .loop .inv .entry)

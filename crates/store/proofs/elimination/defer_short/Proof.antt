@@ -27,21 +27,32 @@ abbrev μ-loop : tie.MeasureT-loop
 
 -- src/elimination.rt:80:5
 -- the state when there is room for a row more
-held : (c : tie.After-make-room Inv-loop μ-loop) → Held (c .before .before .before .before .before .before .before .before .before .before .before .before .before .args .p) (c .before .before .before .before .before .before .before .before .before .before .before .before .before .args .c) (c .before .before .before .before .before .before .before .before .before .before .before .before .before .args .store .now) (c .before .before .before .before .before .before .before .before .before .before .before .before .before .args .e .now) (c .before .before .before .before .loop .q) (c .before .before .before .before .loop .begin) (c .make-room .result) (c .make-room .last .0) (c .make-room .last .1 .0) × (0 < c .make-room .result)
-held c = held-room _ _ _ _ (c .before .before .before .before .loop .inv .0) _ _ _ _ (c .before .before .before .before .loop .inv .1) (c .before .before .before .before .loop .inv .2) (c .make-room .ensures)
+held : (c : tie.After-make-room Inv-loop μ-loop) →
+    let args = c .before .before .before .before .before .before .before .before .before .before .before .before .before .args in
+    let loop = c .before .before .before .before .loop in
+    Held (args .p) (args .c) (args .store .now) (args .e .now) (loop .q) (loop .begin) (c .make-room .result) (c .make-room .last .0) (c .make-room .last .1 .0) × (0 < c .make-room .result)
+held c =
+    let loop = c .before .before .before .before .loop in
+    held-room _ _ _ _ (loop .inv .0) _ _ _ _ (loop .inv .1) (loop .inv .2) (c .make-room .ensures)
 
 accumulate-requires : tie.Need-accumulate-requires Inv-loop μ-loop
 accumulate-requires c κs =
-    let z = c .before .before .before .before .before .pre .1 .1 .0 in
-    (c .before .before .before .before .before .pre .1 .0 .places ∙ sym (ap length z ∙ tab-length (c .before .before .before .before .before .args .c + 1) (λ _. 0)), λ i. omega (arith, zeros-at (c .before .before .before .before .before .args .c + 1) _ z i))
+    let pre = c .before .before .before .before .before .pre in
+    let args = c .before .before .before .before .before .args in
+    let z = pre .1 .1 .0 in
+    (pre .1 .0 .places ∙ sym (ap length z ∙ tab-length (args .c + 1) (λ _. 0)), λ i. omega (arith, zeros-at (args .c + 1) _ z i))
 
 -- src/elimination.rt:81:25
 mul-rows : tie.Need-mul-rows Inv-loop μ-loop
-mul-rows c = omega (arith, mul-le-mul (c .before .before .before .before .before .before .before .before .pre .0 .modulus .1) (c .before .before .before .before .before .before .before .before .pre .0 .modulus .1))
+mul-rows c =
+    let pre = c .before .before .before .before .before .before .before .before .pre in
+    omega (arith, mul-le-mul (pre .0 .modulus .1) (pre .0 .modulus .1))
 
 -- src/elimination.rt:81:16
 div-rows : tie.Need-div-rows Inv-loop μ-loop
-div-rows c = omega (arith, mul-le-mul (c .before .before .before .before .before .before .before .before .pre .0 .modulus .0) (c .before .before .before .before .before .before .before .before .pre .0 .modulus .0))
+div-rows c =
+    let pre = c .before .before .before .before .before .before .before .before .pre in
+    omega (arith, mul-le-mul (pre .0 .modulus .0) (pre .0 .modulus .0))
 
 -- src/elimination.rt:82:17
 add-width : tie.Need-add-width Inv-loop μ-loop
@@ -50,32 +61,54 @@ add-width c = omega arith
 -- src/elimination.rt:86:5
 loop-holds : tie.Need-loop-holds Inv-loop μ-loop
 loop-holds c =
-    let r = rows-fit (c .before .before .before .before .before .before .before .before .args .p) (c .before .before .before .before .before .before .before .before .pre .0 .modulus) in
-    (held-none _ _ _ _ _ _ _ _ (c .before .before .before .before .before .before .before .before .pre .1 .1 .0) (c .before .before .accumulate .ensures) (c .before .before .before .before .before .before .before .before .pre .1 .1 .1) (r .1), r .0, r .1)
+    let args = c .before .before .before .before .before .before .before .before .args in
+    let pre = c .before .before .before .before .before .before .before .before .pre in
+    let r = rows-fit (args .p) (pre .0 .modulus) in
+    (held-none _ _ _ _ _ _ _ _ (pre .1 .1 .0) (c .before .before .accumulate .ensures) (pre .1 .1 .1) (r .1), r .0, r .1)
 
 -- src/elimination.rt:87:9
 make-room-requires : tie.Need-make-room-requires Inv-loop μ-loop
-make-room-requires c κs = (c .before .before .before .loop .inv .0 .narrow ∙ sym (c .before .before .before .loop .inv .0 .wide), held-small _ _ _ _ (c .before .before .before .loop .inv .0) (c .before .before .before .before .before .before .before .before .before .before .before .before .pre .0) (c .before .before .before .before .before .before .before .before .before .before .before .before .pre .1 .0))
+make-room-requires c κs =
+    let loop = c .before .before .before .loop in
+    let pre = c .before .before .before .before .before .before .before .before .before .before .before .before .pre in
+    (loop .inv .0 .narrow ∙ sym (loop .inv .0 .wide), held-small _ _ _ _ (loop .inv .0) (pre .0) (pre .1 .0))
 
 -- src/elimination.rt:88:17
 add-a : tie.Need-add-a Inv-loop μ-loop
-add-a c = omega (arith, tail-end (c .before .before .before .before .before .before .before .before .before .before .before .before .before .before .before .before .before .args .c) (c .before .before .before .before .before .before .before .before .before .before .before .before .before .before .before .before .before .args .store .now) (c .before .before .before .before .before .before .before .before .loop .q) (c .before .before .before .before .before .before .before .before .loop .q) (c .before .before .before .before .before .before .before .before .loop .begin) (c .before .before .before .before .before .before .before .before .before .before .before .before .before .before .before .before .before .pre .0 .places) (c .before .before .before .before .before .before .before .loop-test .taken) (le-of-lt (c .before .before .before .before .before .before .before .loop-test .taken)) (c .before .before .before .before .before .before .before .before .loop .inv .0 .both .begins))
+add-a c =
+    let args = c .before .before .before .before .before .before .before .before .before .before .before .before .before .before .before .before .before .args in
+    let loop = c .before .before .before .before .before .before .before .before .loop in
+    let pre = c .before .before .before .before .before .before .before .before .before .before .before .before .before .before .before .before .before .pre in
+    omega (arith, tail-end (args .c) (args .store .now) (loop .q) (loop .q) (loop .begin) (pre .0 .places) (c .before .before .before .before .before .before .before .loop-test .taken) (le-of-lt (c .before .before .before .before .before .before .before .loop-test .taken)) (loop .inv .0 .both .begins))
 
 -- src/elimination.rt:89:19
 add-end : tie.Need-add-end Inv-loop μ-loop
-add-end c = omega (arith, tail-end (c .before .before .before .before .before .before .before .before .before .before .before .before .before .before .before .before .before .args .c) (c .before .before .before .before .before .before .before .before .before .before .before .before .before .before .before .before .before .args .store .now) (c .before .before .before .before .before .before .before .before .loop .q) (c .before .before .before .before .before .before .before .before .loop .q) (c .before .before .before .before .before .before .before .before .loop .begin) (c .before .before .before .before .before .before .before .before .before .before .before .before .before .before .before .before .before .pre .0 .places) (c .before .before .before .before .before .before .before .loop-test .taken) (le-of-lt (c .before .before .before .before .before .before .before .loop-test .taken)) (c .before .before .before .before .before .before .before .before .loop .inv .0 .both .begins))
+add-end c =
+    let args = c .before .before .before .before .before .before .before .before .before .before .before .before .before .before .before .before .before .args in
+    let loop = c .before .before .before .before .before .before .before .before .loop in
+    let pre = c .before .before .before .before .before .before .before .before .before .before .before .before .before .before .before .before .before .pre in
+    omega (arith, tail-end (args .c) (args .store .now) (loop .q) (loop .q) (loop .begin) (pre .0 .places) (c .before .before .before .before .before .before .before .loop-test .taken) (le-of-lt (c .before .before .before .before .before .before .before .loop-test .taken)) (loop .inv .0 .both .begins))
 
 -- src/elimination.rt:90:24
 shared-slice-read-factor : tie.Need-shared-slice-read-factor Inv-loop μ-loop
-shared-slice-read-factor c = omega (arith, c .before .before .before .before .before .before .before .before .before .before .before .before .before .before .before .before .before .before .pre .1 .0 .places)
+shared-slice-read-factor c =
+    let pre = c .before .before .before .before .before .before .before .before .before .before .before .before .before .before .before .before .before .before .pre in
+    omega (arith, pre .1 .0 .places)
 
 -- src/elimination.rt:90:30
 shared-slice-read-factor-2 : tie.Need-shared-slice-read-factor-2 Inv-loop μ-loop
-shared-slice-read-factor-2 c = omega (arith, tail-end (c .before .before .before .before .before .before .before .before .before .before .before .before .before .before .before .before .before .before .before .args .c) (c .before .before .before .before .before .before .before .before .before .before .before .before .before .before .before .before .before .before .before .args .store .now) (c .before .before .before .before .before .before .before .before .before .before .loop .q) (c .before .before .before .before .before .before .before .before .before .before .loop .q) (c .before .before .before .before .before .before .before .before .before .before .loop .begin) (c .before .before .before .before .before .before .before .before .before .before .before .before .before .before .before .before .before .before .before .pre .0 .places) (c .before .before .before .before .before .before .before .before .before .loop-test .taken) (le-of-lt (c .before .before .before .before .before .before .before .before .before .loop-test .taken)) (c .before .before .before .before .before .before .before .before .before .before .loop .inv .0 .both .begins))
+shared-slice-read-factor-2 c =
+    let args = c .before .before .before .before .before .before .before .before .before .before .before .before .before .before .before .before .before .before .before .args in
+    let loop = c .before .before .before .before .before .before .before .before .before .before .loop in
+    let pre = c .before .before .before .before .before .before .before .before .before .before .before .before .before .before .before .before .before .before .before .pre in
+    omega (arith, tail-end (args .c) (args .store .now) (loop .q) (loop .q) (loop .begin) (pre .0 .places) (c .before .before .before .before .before .before .before .before .before .loop-test .taken) (le-of-lt (c .before .before .before .before .before .before .before .before .before .loop-test .taken)) (loop .inv .0 .both .begins))
 
 -- src/elimination.rt:90:13
 factor-requires : tie.Need-factor-requires Inv-loop μ-loop
-factor-requires c κs = c .before .before .before .before .before .before .before .before .before .before .before .before .before .before .before .before .before .before .before .pre .1 .0 .residues (c .before .before .before .before .before .before .before .before .before .before .loop .q)
+factor-requires c κs =
+    let pre = c .before .before .before .before .before .before .before .before .before .before .before .before .before .before .before .before .before .before .before .pre in
+    let loop = c .before .before .before .before .before .before .before .before .before .before .loop in
+    pre .1 .0 .residues (loop .q)
 
 -- src/elimination.rt:91:33
 mul-accumulate-short : tie.Need-mul-accumulate-short Inv-loop μ-loop
@@ -91,7 +124,9 @@ part-accumulate-short-start c = omega arith
 
 -- src/elimination.rt:91:33
 part-accumulate-short-end : tie.Need-part-accumulate-short-end Inv-loop μ-loop
-part-accumulate-short-end c = omega (arith, held (c .before .before .before .before .before .before .before) .0 .narrow)
+part-accumulate-short-end c =
+    let r = c .before .before .before .before .before .before .before in
+    omega (arith, held r .0 .narrow)
 
 -- src/elimination.rt:91:55
 sub-accumulate-short-2 : tie.Need-sub-accumulate-short-2 Inv-loop μ-loop
@@ -103,20 +138,30 @@ part-accumulate-short-start-2 c = omega arith
 
 -- src/elimination.rt:91:55
 part-accumulate-short-end-2 : tie.Need-part-accumulate-short-end-2 Inv-loop μ-loop
-part-accumulate-short-end-2 c = tail-end (c .before .before .before .before .before .before .before .before .before .before .before .before .before .before .before .before .before .before .before .before .before .args .c) (c .before .before .before .before .before .before .before .before .before .before .before .before .before .before .before .before .before .before .before .before .before .args .store .now) (c .before .before .before .before .before .before .before .before .before .before .before .before .loop .q) (c .before .before .before .before .before .before .before .before .before .before .before .before .loop .q) (c .before .before .before .before .before .before .before .before .before .before .before .before .loop .begin) (c .before .before .before .before .before .before .before .before .before .before .before .before .before .before .before .before .before .before .before .before .before .pre .0 .places) (c .before .before .before .before .before .before .before .before .before .before .before .loop-test .taken) (le-of-lt (c .before .before .before .before .before .before .before .before .before .before .before .loop-test .taken)) (c .before .before .before .before .before .before .before .before .before .before .before .before .loop .inv .0 .both .begins)
+part-accumulate-short-end-2 c =
+    let args = c .before .before .before .before .before .before .before .before .before .before .before .before .before .before .before .before .before .before .before .before .before .args in
+    let loop = c .before .before .before .before .before .before .before .before .before .before .before .before .loop in
+    let pre = c .before .before .before .before .before .before .before .before .before .before .before .before .before .before .before .before .before .before .before .before .before .pre in
+    tail-end (args .c) (args .store .now) (loop .q) (loop .q) (loop .begin) (pre .0 .places) (c .before .before .before .before .before .before .before .before .before .before .before .loop-test .taken) (le-of-lt (c .before .before .before .before .before .before .before .before .before .before .before .loop-test .taken)) (loop .inv .0 .both .begins)
 
 -- src/elimination.rt:91:9
 accumulate-short-requires : tie.Need-accumulate-short-requires Inv-loop μ-loop
 accumulate-short-requires c κs =
-    let w = held (c .before .before .before .before .before .before .before .before .before) in
+    let args = c .before .before .before .before .before .before .before .before .before .before .before .before .before .before .before .before .before .before .before .before .before .before .args in
+    let loop = c .before .before .before .before .before .before .before .before .before .before .before .before .before .loop in
+    let pre = c .before .before .before .before .before .before .before .before .before .before .before .before .before .before .before .before .before .before .before .before .before .before .pre in
+    let r = c .before .before .before .before .before .before .before .before .before in
+    let w = held r in
     let l = c .before .before .before .before .before .before .before .before .before .before .before .before .loop-test .taken in (
-      tail-length (c .before .before .before .before .before .before .before .before .before .before .before .before .before .before .before .before .before .before .before .before .before .before .args .c) (c .before .before .before .before .before .before .before .before .before .before .before .before .before .before .before .before .before .before .before .before .before .before .args .store .now) (c .before .before .before .before .before .before .before .before .before .before .before .before .before .loop .q) (c .before .before .before .before .before .before .before .before .before .before .before .before .before .loop .q) (c .before .before .before .before .before .before .before .before .before .before .before .before .before .loop .begin) (c .before .before .before .before .before .before .before .before .before .before .before .before .before .before .before .before .before .before .before .before .before .before .pre .0 .places) (c .before .before .before .before .before .before .before .before .before .before .before .before .loop-test .taken) (le-of-lt (c .before .before .before .before .before .before .before .before .before .before .before .before .loop-test .taken)) (c .before .before .before .before .before .before .before .before .before .before .before .before .before .loop .inv .0 .both .begins) ∙ sym (part-length _ (c .before .before .before .before .before .before .before .before .before .before .before .before .before .loop .q) (c .before .before .before .before .before .before .before .before .before .before .before .before .before .before .before .before .before .before .before .before .before .before .args .c + 1 - c .before .before .before .before .before .before .before .before .before .before .before .before .before .loop .q) (omega (arith, w .0 .narrow))),
-      held-fits _ _ _ _ (w .0) (c .before .before .before .before .before .before .before .before .before .before .before .before .before .before .before .before .before .before .before .before .before .before .pre .0) (c .before .before .before .before .before .before .before .before .before .before .before .before .before .before .before .before .before .before .before .before .before .before .pre .1 .0) l _ (c .before .before .factor .ensures) (w .1),
+      tail-length (args .c) (args .store .now) (loop .q) (loop .q) (loop .begin) (pre .0 .places) (c .before .before .before .before .before .before .before .before .before .before .before .before .loop-test .taken) (le-of-lt (c .before .before .before .before .before .before .before .before .before .before .before .before .loop-test .taken)) (loop .inv .0 .both .begins) ∙ sym (part-length _ (loop .q) (args .c + 1 - loop .q) (omega (arith, w .0 .narrow))),
+      held-fits _ _ _ _ (w .0) (pre .0) (pre .1 .0) l _ (c .before .before .factor .ensures) (w .1),
     )
 
 -- src/elimination.rt:92:9
 sub-left : tie.Need-sub-left Inv-loop μ-loop
-sub-left c = omega (arith, held (c .before .before .before .before .before .before .before .before .before .before .before .before) .1)
+sub-left c =
+    let r = c .before .before .before .before .before .before .before .before .before .before .before .before in
+    omega (arith, held r .1)
 
 -- src/elimination.rt:94:9
 add-q : tie.Need-add-q Inv-loop μ-loop
@@ -129,24 +174,44 @@ loop-less c = omega arith
 -- src/elimination.rt:86:5
 loop-again : tie.Need-loop-again Inv-loop μ-loop
 loop-again c =
-    let w = held (c .before .before .before .before .before .before .before .before .before .before .before .before) in
-    (held-next _ _ _ _ (w .0) (c .before .before .before .before .before .before .before .before .before .before .before .before .before .before .before .before .before .before .before .before .before .before .before .before .before .pre .0) (c .before .before .before .before .before .before .before .before .before .before .before .before .before .before .before .before .before .before .before .before .before .before .before .before .before .pre .1 .0) (c .before .before .before .before .before .before .before .before .before .before .before .before .before .before .before .loop-test .taken) _ (c .before .before .before .before .before .factor .ensures) (w .1) _ (c .before .before .accumulate-short .ensures), c .before .before .before .before .before .before .before .before .before .before .before .before .before .before .before .before .loop .inv .1, c .before .before .before .before .before .before .before .before .before .before .before .before .before .before .before .before .loop .inv .2)
+    let pre = c .before .before .before .before .before .before .before .before .before .before .before .before .before .before .before .before .before .before .before .before .before .before .before .before .before .pre in
+    let factor = c .before .before .before .before .before .factor in
+    let loop = c .before .before .before .before .before .before .before .before .before .before .before .before .before .before .before .before .loop in
+    let r = c .before .before .before .before .before .before .before .before .before .before .before .before in
+    let w = held r in
+    (held-next _ _ _ _ (w .0) (pre .0) (pre .1 .0) (c .before .before .before .before .before .before .before .before .before .before .before .before .before .before .before .loop-test .taken) _ (factor .ensures) (w .1) _ (c .before .before .accumulate-short .ensures), loop .inv .1, loop .inv .2)
 
 -- src/elimination.rt:96:5
 pour-requires : tie.Need-pour-requires Inv-loop μ-loop
-pour-requires c κs = (c .before .before .before .loop .inv .0 .narrow ∙ sym (c .before .before .before .loop .inv .0 .wide), held-small _ _ _ _ (c .before .before .before .loop .inv .0) (c .before .before .before .before .before .before .before .before .before .before .before .before .pre .0) (c .before .before .before .before .before .before .before .before .before .before .before .before .pre .1 .0))
+pour-requires c κs =
+    let loop = c .before .before .before .loop in
+    let pre = c .before .before .before .before .before .before .before .before .before .before .before .before .pre in
+    (loop .inv .0 .narrow ∙ sym (loop .inv .0 .wide), held-small _ _ _ _ (loop .inv .0) (pre .0) (pre .1 .0))
 
 -- src/elimination.rt:73:1
 same-length : tie.Need-same-length Inv-loop μ-loop
-same-length c = ap length (c .before .before .before .before .pour .ensures .0) ∙ tab-length _ _ ∙ c .before .before .before .before .before .before .before .before .loop .inv .0 .wide ∙ sym (ap length (c .before .before .before .before .before .before .before .before .before .before .before .before .before .before .before .before .before .pre .1 .1 .0) ∙ tab-length (c .before .before .before .before .before .before .before .before .before .before .before .before .before .before .before .before .before .args .c + 1) (λ _. 0))
+same-length c =
+    let pour = c .before .before .before .before .pour in
+    let loop = c .before .before .before .before .before .before .before .before .loop in
+    let pre = c .before .before .before .before .before .before .before .before .before .before .before .before .before .before .before .before .before .pre in
+    let args = c .before .before .before .before .before .before .before .before .before .before .before .before .before .before .before .before .before .args in
+    ap length (pour .ensures .0) ∙ tab-length _ _ ∙ loop .inv .0 .wide ∙ sym (ap length (pre .1 .1 .0) ∙ tab-length (args .c + 1) (λ _. 0))
 
 -- src/elimination.rt:73:1
 same-length-2 : tie.Need-same-length-2 Inv-loop μ-loop
-same-length-2 c = ap length (c .before .before .before .before .pour .ensures .1) ∙ tab-length _ _ ∙ c .before .before .before .before .before .before .before .before .loop .inv .0 .narrow ∙ sym (ap length (c .before .before .before .before .before .before .before .before .before .before .before .before .before .before .before .before .before .pre .1 .1 .1) ∙ tab-length (c .before .before .before .before .before .before .before .before .before .before .before .before .before .before .before .before .before .args .c + 1) (λ _. 0))
+same-length-2 c =
+    let pour = c .before .before .before .before .pour in
+    let loop = c .before .before .before .before .before .before .before .before .loop in
+    let pre = c .before .before .before .before .before .before .before .before .before .before .before .before .before .before .before .before .before .pre in
+    let args = c .before .before .before .before .before .before .before .before .before .before .before .before .before .before .before .before .before .args in
+    ap length (pour .ensures .1) ∙ tab-length _ _ ∙ loop .inv .0 .narrow ∙ sym (ap length (pre .1 .1 .1) ∙ tab-length (args .c + 1) (λ _. 0))
 
 -- src/elimination.rt:73:1
 returns : tie.Need-returns Inv-loop μ-loop
-returns c = held-all _ _ _ _ (c .before .before .before .before .before .before .before .before .loop .inv .0) (c .before .before .before .before .before .before .before .loop-test .left) _ (c .before .before .before .before .pour .ensures .0)
+returns c =
+    let loop = c .before .before .before .before .before .before .before .before .loop in
+    let pour = c .before .before .before .before .pour in
+    held-all _ _ _ _ (loop .inv .0) (c .before .before .before .before .before .before .before .loop-test .left) _ (pour .ensures .0)
 
 pub defer-short-spec : {M : Type 1} → statement M
 defer-short-spec =

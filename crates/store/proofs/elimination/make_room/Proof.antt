@@ -18,7 +18,9 @@ same-length-2 : tie.Need-same-length-2
 same-length-2 c = search needs
 
 returns-2 : tie.Need-returns-2
-returns-2 c = inr (refl, c .before .before .before .before .pour .ensures .0, c .before .before .before .before .pour .ensures .1)
+returns-2 c =
+    let pour = c .before .before .before .before .pour in
+    inr (refl, pour .ensures .0, pour .ensures .1)
 
 pub make-room-spec : {M : Type 1} → statement M
 make-room-spec = tie.close (tie.spec returns pour-requires same-length same-length-2 returns-2)

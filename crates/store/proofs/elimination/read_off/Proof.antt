@@ -24,13 +24,17 @@ loop-holds : tie.Need-loop-holds Inv-loop μ-loop
 loop-holds c = (written-none _ _ _ (c .pre .1 .1), omega arith)
 
 shared-slice-read-beta : tie.Need-shared-slice-read-beta Inv-loop μ-loop
-shared-slice-read-beta c = omega (arith, mul-le-mul-right (c .before .before .before .args .c + 1) (c .before .loop-test .taken))
+shared-slice-read-beta c =
+    let args = c .before .before .before .args in
+    omega (arith, mul-le-mul-right (args .c + 1) (c .before .loop-test .taken))
 
 slice-write-beta : tie.Need-slice-write-beta Inv-loop μ-loop
 slice-write-beta c = omega arith
 
 add-a : tie.Need-add-a Inv-loop μ-loop
-add-a c = omega (arith, mul-le-mul-right (c .before .before .before .args .c + 1) (c .before .loop-test .taken))
+add-a c =
+    let args = c .before .before .before .args in
+    omega (arith, mul-le-mul-right (args .c + 1) (c .before .loop-test .taken))
 
 add-q : tie.Need-add-q Inv-loop μ-loop
 add-q c = omega arith
@@ -39,7 +43,9 @@ loop-less : tie.Need-loop-less Inv-loop μ-loop
 loop-less c = omega arith
 
 loop-again : tie.Need-loop-again Inv-loop μ-loop
-loop-again c = (written-next _ (c .before .before .loop .inv .0) (omega arith) (ap (at (c .before .before .before .args .store .now)) (c .before .before .loop .inv .1)), omega arith)
+loop-again c =
+    let args = c .before .before .before .args in
+    (written-next _ (c .before .before .loop .inv .0) (omega arith) (ap (at (args .store .now)) (c .before .before .loop .inv .1)), omega arith)
 
 same-length : tie.Need-same-length Inv-loop μ-loop
 same-length c = c .before .loop .inv .0 .same ∙ sym (c .before .before .pre .1 .1)

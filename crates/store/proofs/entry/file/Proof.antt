@@ -30,10 +30,14 @@ enum-known-k c = search needs
 enum-known-plan : tie.Need-enum-known-plan
 enum-known-plan c = search needs
 
-refused : (c : tie.After-k) → checked (c .before .before .before .before .before .before .before .args .p) (c .before .before .before .before .before .before .before .args .s) (c .before .before .before .before .before .before .before .args .n) (c .before .before .before .before .before .before .before .args .m) (c .before .before .before .before .before .before .before .args .t) ≡ Refused (c .k .given .0 .0)
+refused : (c : tie.After-k) →
+    let args = c .before .before .before .before .before .before .before .args in
+    checked (args .p) (args .s) (args .n) (args .m) (args .t) ≡ Refused (c .k .given .0 .0)
 refused c = sym (c .before .before .new .ensures) ∙ c .k .given .1
 
-accepted : (c : tie.After-plan) → checked (c .before .before .before .before .before .before .before .args .p) (c .before .before .before .before .before .before .before .args .s) (c .before .before .before .before .before .before .before .args .n) (c .before .before .before .before .before .before .before .args .m) (c .before .before .before .before .before .before .before .args .t) ≡ Accepted (c .plan .given .0 .0)
+accepted : (c : tie.After-plan) →
+    let args = c .before .before .before .before .before .before .before .args in
+    checked (args .p) (args .s) (args .n) (args .m) (args .t) ≡ Accepted (c .plan .given .0 .0)
 accepted c = sym (c .before .before .new .ensures) ∙ c .plan .given .1
 
 columns-requires : tie.Need-columns-requires
@@ -49,25 +53,42 @@ part-refusal-requires : tie.Need-part-refusal-requires
 part-refusal-requires c κs = call-within _ _ _ _ _ (accepted (c .before .before))
 
 -- the parts' refusal, with the call's own part against the plan's columns
-parts : (c : tie.After-part-refusal) → c .part-refusal .result ≡ first (partCauses (c .before .before .before .plan .given .0 .0) (c .before .before .before .before .before .before .before .before .before .before .args .weights .now) (c .before .before .before .before .before .before .before .before .before .before .args .tables .now) (c .before .before .before .before .before .before .before .before .before .before .args .d .now) (storeFits (c .before .before .before .plan .given .0 .0) (c .before .before .before .before .before .before .before .before .before .before .args .store .now)))
-parts c = c .part-refusal .ensures ∙ ap (λ (n : ℕ). first (partCauses (c .before .before .before .plan .given .0 .0) (c .before .before .before .before .before .before .before .before .before .before .args .weights .now) (c .before .before .before .before .before .before .before .before .before .before .args .tables .now) (c .before .before .before .before .before .before .before .before .before .before .args .d .now) (eqb (length (c .before .before .before .before .before .before .before .before .before .before .args .store .now)) (n * (n + 1))))) (c .before .columns .ensures)
+parts : (c : tie.After-part-refusal) →
+    let plan = c .before .before .before .plan in
+    let args = c .before .before .before .before .before .before .before .before .before .before .args in
+    c .part-refusal .result ≡ first (partCauses (plan .given .0 .0) (args .weights .now) (args .tables .now) (args .d .now) (storeFits (plan .given .0 .0) (args .store .now)))
+parts c =
+    let plan = c .before .before .before .plan in
+    let args = c .before .before .before .before .before .before .before .before .before .before .args in
+    c .part-refusal .ensures ∙ ap (λ (n : ℕ). first (partCauses (plan .given .0 .0) (args .weights .now) (args .tables .now) (args .d .now) (eqb (length (args .store .now)) (n * (n + 1))))) (c .before .columns .ensures)
 
 returns : tie.Need-returns
 unfolding fileCauses
 returns c =
+    let r = c .before .before .before .before in
     let pos = pos-of-ne-zero (c .if1 .taken) in
-    refused-call _ _ _ _ _ (call-parts _ _ _ _ _ _ _ _ _ _ _ (accepted (c .before .before .before .before)) _ (parts (c .before)) pos) pos
+    refused-call _ _ _ _ _ (call-parts _ _ _ _ _ _ _ _ _ _ _ (accepted r) _ (parts (c .before)) pos) pos
 
 is-reduced-requires : tie.Need-is-reduced-requires
 is-reduced-requires c κs =
-    let within = call-within _ _ _ _ _ (accepted (c .before .before .before .before .before)) in
+    let r = c .before .before .before .before .before in
+    let within = call-within _ _ _ _ _ (accepted r) in
     let fits = lent-of _ _ _ _ _ within (sym (c .before .before .part-refusal .ensures) ∙ c .before .if1 .left) .1 in
     (columns-small _ within (c .before .before .before .columns .ensures), (modulus within, eqb-true _ _ fits))
 
-reduced : (c : tie.After-is-reduced) → c .is-reduced .result ≡ isReduced (c .before .before .before .before .before .before .plan .given .0 .0 .p) (columns (c .before .before .before .before .before .before .plan .given .0 .0)) (cells (columns (c .before .before .before .before .before .before .plan .given .0 .0)) (c .before .before .before .before .before .before .before .before .before .before .before .before .before .args .store .now))
-reduced c = c .is-reduced .ensures ∙ ap (λ (n : ℕ). isReduced (c .before .before .before .before .before .before .plan .given .0 .0 .p) n (cells n (c .before .before .before .before .before .before .before .before .before .before .before .before .before .args .store .now))) (c .before .before .before .before .columns .ensures)
+reduced : (c : tie.After-is-reduced) →
+    let plan = c .before .before .before .before .before .before .plan in
+    let args = c .before .before .before .before .before .before .before .before .before .before .before .before .before .args in
+    c .is-reduced .result ≡ isReduced (plan .given .0 .0 .p) (columns (plan .given .0 .0)) (cells (columns (plan .given .0 .0)) (args .store .now))
+reduced c =
+    let plan = c .before .before .before .before .before .before .plan in
+    let args = c .before .before .before .before .before .before .before .before .before .before .before .before .before .args in
+    c .is-reduced .ensures ∙ ap (λ (n : ℕ). isReduced (plan .given .0 .0 .p) n (cells n (args .store .now))) (c .before .before .before .before .columns .ensures)
 
-passing : (c : tie.Else2) → isReduced (c .before .before .before .before .before .before .before .plan .given .0 .0 .p) (columns (c .before .before .before .before .before .before .before .plan .given .0 .0)) (cells (columns (c .before .before .before .before .before .before .before .plan .given .0 .0)) (c .before .before .before .before .before .before .before .before .before .before .before .before .before .before .args .store .now)) ≡ true
+passing : (c : tie.Else2) →
+    let plan = c .before .before .before .before .before .before .before .plan in
+    let args = c .before .before .before .before .before .before .before .before .before .before .before .before .before .before .args in
+    isReduced (plan .given .0 .0 .p) (columns (plan .given .0 .0)) (cells (columns (plan .given .0 .0)) (args .store .now)) ≡ true
 passing c = sym (reduced (c .before)) ∙ not-false (c .before .is-reduced .result) (c .if2 .left)
 
 same-length : tie.Need-same-length
@@ -76,12 +97,17 @@ same-length c = search needs
 returns-2 : tie.Need-returns-2
 unfolding fileCauses
 returns-2 c =
+    let if1 = c .before .before .before .if1 in
+    let r1 = c .before .before .before .before .before .before .before in
+    let r2 = c .before .before .before .before in
     refused-call _ 6 _ _ _
-    (sym (call-passed _ _ _ _ _ _ _ _ _ _ _ (accepted (c .before .before .before .before .before .before .before)) (sym (c .before .before .before .if1 .left) ∙ parts (c .before .before .before .before)) ∙ rw (sym (reduced (c .before)) ∙ not-true (c .before .is-reduced .result) (c .if2 .taken))))
+    (sym (call-passed _ _ _ _ _ _ _ _ _ _ _ (accepted r1) (sym (if1 .left) ∙ parts r2) ∙ rw (sym (reduced (c .before)) ∙ not-true (c .before .is-reduced .result) (c .if2 .taken))))
     (omega arith)
 
 entries-requires : tie.Need-entries-requires
-entries-requires c κs = call-within _ _ _ _ _ (accepted (c .before .before .before .before .before .before .before))
+entries-requires c κs =
+    let r = c .before .before .before .before .before .before .before in
+    call-within _ _ _ _ _ (accepted r)
 
 same-length-2 : tie.Need-same-length-2
 same-length-2 c = search needs
@@ -89,9 +115,12 @@ same-length-2 c = search needs
 returns-3 : tie.Need-returns-3
 unfolding fileCauses
 returns-3 c =
+    let if1 = c .before .before .before .before .before .if1 in
+    let r1 = c .before .before .before .before .before .before .before .before .before in
+    let r2 = c .before .before .before .before .before .before in
     let far = rw (c .before .entries .ensures) at (c .if3 .taken) in
     refused-call _ 7 _ _ _
-    (sym (call-passed _ _ _ _ _ _ _ _ _ _ _ (accepted (c .before .before .before .before .before .before .before .before .before)) (sym (c .before .before .before .before .before .if1 .left) ∙ parts (c .before .before .before .before .before .before)) ∙ rw (passing (c .before .before), le-ltb _ _ far)))
+    (sym (call-passed _ _ _ _ _ _ _ _ _ _ _ (accepted r1) (sym (if1 .left) ∙ parts r2) ∙ rw (passing (c .before .before), le-ltb _ _ far)))
     (omega arith)
 
 cast-if4 : tie.Need-cast-if4
@@ -103,9 +132,14 @@ same-length-3 c = search needs
 returns-4 : tie.Need-returns-4
 unfolding fileCauses
 returns-4 c =
-    let near = rw (c .before .before .before .entries .ensures) at (c .before .before .if3 .left) in
+    let entries = c .before .before .before .entries in
+    let if1 = c .before .before .before .before .before .before .before .if1 in
+    let r1 = c .before .before .before .before .before .before .before .before .before .before .before in
+    let r2 = c .before .before .before .before .before .before .before .before in
+    let r3 = c .before .before .before .before in
+    let near = rw (entries .ensures) at (c .before .before .if3 .left) in
     refused-call _ 8 _ _ _
-    (sym (call-passed _ _ _ _ _ _ _ _ _ _ _ (accepted (c .before .before .before .before .before .before .before .before .before .before .before)) (sym (c .before .before .before .before .before .before .before .if1 .left) ∙ parts (c .before .before .before .before .before .before .before .before)) ∙ rw (passing (c .before .before .before .before), lt-ltb _ _ near, le-ltb _ _ (c .if4 .taken))))
+    (sym (call-passed _ _ _ _ _ _ _ _ _ _ _ (accepted r1) (sym (if1 .left) ∙ parts r2) ∙ rw (passing r3, lt-ltb _ _ near, le-ltb _ _ (c .if4 .taken))))
     (omega arith)
 
 cast-file-entry : tie.Need-cast-file-entry
@@ -113,9 +147,13 @@ cast-file-entry c = search needs
 
 file-entry-requires : tie.Need-file-entry-requires
 file-entry-requires c κs =
-    let within = call-within _ _ _ _ _ (accepted (c .before .before .before .before .before .before .before .before .before .before .before .before)) in
-    let lent = lent-of _ _ _ _ _ within (sym (parts (c .before .before .before .before .before .before .before .before .before)) ∙ c .before .before .before .before .before .before .before .before .if1 .left) in
-    (within, (lent .0, (ready-of _ _ within (eqb-true _ _ (lent .1)) (passing (c .before .before .before .before .before)), omega (arith, within .radix-high))))
+    let if1 = c .before .before .before .before .before .before .before .before .if1 in
+    let r1 = c .before .before .before .before .before .before .before .before .before .before .before .before in
+    let r2 = c .before .before .before .before .before .before .before .before .before in
+    let r3 = c .before .before .before .before .before in
+    let within = call-within _ _ _ _ _ (accepted r1) in
+    let lent = lent-of _ _ _ _ _ within (sym (parts r2) ∙ if1 .left) in
+    (within, (lent .0, (ready-of _ _ within (eqb-true _ _ (lent .1)) (passing r3), omega (arith, within .radix-high))))
 
 returns-5 : tie.Need-returns-5
 unfolding fileCauses
@@ -129,11 +167,18 @@ same-length-4 c = search needs
 returns-6 : tie.Need-returns-6
 unfolding fileCauses
 returns-6 c =
-    let near = rw (c .before .before .before .before .before .before .before .entries .ensures) at (c .before .before .before .before .before .before .if3 .left) in
-    let within = call-within _ _ _ _ _ (accepted (c .before .before .before .before .before .before .before .before .before .before .before .before .before .before .before)) in
-    let lent = lent-of _ _ _ _ _ within (sym (parts (c .before .before .before .before .before .before .before .before .before .before .before .before)) ∙ c .before .before .before .before .before .before .before .before .before .before .before .if1 .left) in
-    filed-call _ _ _ _ _ _ _ _ _ _ _ (call-plan _ _ _ _ _ (accepted (c .before .before .before .before .before .before .before .before .before .before .before .before .before .before .before))) (eqb-true _ _ (lent .1))
-    (call-passed _ _ _ _ _ _ _ _ _ _ _ (accepted (c .before .before .before .before .before .before .before .before .before .before .before .before .before .before .before)) (sym (c .before .before .before .before .before .before .before .before .before .before .before .if1 .left) ∙ parts (c .before .before .before .before .before .before .before .before .before .before .before .before)) ∙ rw (passing (c .before .before .before .before .before .before .before .before), lt-ltb _ _ near, lt-ltb _ _ (c .before .before .before .before .if4 .left)))
+    let entries = c .before .before .before .before .before .before .before .entries in
+    let if3 = c .before .before .before .before .before .before .if3 in
+    let if1 = c .before .before .before .before .before .before .before .before .before .before .before .if1 in
+    let if4 = c .before .before .before .before .if4 in
+    let r1 = c .before .before .before .before .before .before .before .before .before .before .before .before .before .before .before in
+    let r2 = c .before .before .before .before .before .before .before .before .before .before .before .before in
+    let r3 = c .before .before .before .before .before .before .before .before in
+    let near = rw (entries .ensures) at (if3 .left) in
+    let within = call-within _ _ _ _ _ (accepted r1) in
+    let lent = lent-of _ _ _ _ _ within (sym (parts r2) ∙ if1 .left) in
+    filed-call _ _ _ _ _ _ _ _ _ _ _ (call-plan _ _ _ _ _ (accepted r1)) (eqb-true _ _ (lent .1))
+    (call-passed _ _ _ _ _ _ _ _ _ _ _ (accepted r1) (sym (if1 .left) ∙ parts r2) ∙ rw (passing r3, lt-ltb _ _ near, lt-ltb _ _ (if4 .left)))
     (c .before .before .file-entry .ensures .0) (c .before .before .file-entry .ensures .1)
 
 pub file-spec : {M : Type 1} → statement M

@@ -28,10 +28,14 @@ enum-known-k c = search needs
 enum-known-plan : tie.Need-enum-known-plan
 enum-known-plan c = search needs
 
-refused : (c : tie.After-k) → checked (c .before .before .before .before .before .before .before .args .p) (c .before .before .before .before .before .before .before .args .s) (c .before .before .before .before .before .before .before .args .n) (c .before .before .before .before .before .before .before .args .m) (c .before .before .before .before .before .before .before .args .t) ≡ Refused (c .k .given .0 .0)
+refused : (c : tie.After-k) →
+    let args = c .before .before .before .before .before .before .before .args in
+    checked (args .p) (args .s) (args .n) (args .m) (args .t) ≡ Refused (c .k .given .0 .0)
 refused c = sym (c .before .before .new .ensures) ∙ c .k .given .1
 
-accepted : (c : tie.After-plan) → checked (c .before .before .before .before .before .before .before .args .p) (c .before .before .before .before .before .before .before .args .s) (c .before .before .before .before .before .before .before .args .n) (c .before .before .before .before .before .before .before .args .m) (c .before .before .before .before .before .before .before .args .t) ≡ Accepted (c .plan .given .0 .0)
+accepted : (c : tie.After-plan) →
+    let args = c .before .before .before .before .before .before .before .args in
+    checked (args .p) (args .s) (args .n) (args .m) (args .t) ≡ Accepted (c .plan .given .0 .0)
 accepted c = sym (c .before .before .new .ensures) ∙ c .plan .given .1
 
 columns-requires : tie.Need-columns-requires
@@ -47,25 +51,43 @@ part-refusal-requires : tie.Need-part-refusal-requires
 part-refusal-requires c κs = call-within _ _ _ _ _ (accepted (c .before .before))
 
 -- the parts' refusal, with the call's own part against the plan's columns
-parts : (c : tie.After-part-refusal) → c .part-refusal .result ≡ first (partCauses (c .before .before .before .plan .given .0 .0) (c .before .before .before .before .before .before .before .before .before .before .args .weights .now) (c .before .before .before .before .before .before .before .before .before .before .args .tables .now) (c .before .before .before .before .before .before .before .before .before .before .args .d .now) (storeFits (c .before .before .before .plan .given .0 .0) (c .before .before .before .before .before .before .before .before .before .before .args .store .now)))
-parts c = c .part-refusal .ensures ∙ ap (λ (n : ℕ). first (partCauses (c .before .before .before .plan .given .0 .0) (c .before .before .before .before .before .before .before .before .before .before .args .weights .now) (c .before .before .before .before .before .before .before .before .before .before .args .tables .now) (c .before .before .before .before .before .before .before .before .before .before .args .d .now) (eqb (length (c .before .before .before .before .before .before .before .before .before .before .args .store .now)) (n * (n + 1))))) (c .before .columns .ensures)
+parts : (c : tie.After-part-refusal) →
+    let plan = c .before .before .before .plan in
+    let args = c .before .before .before .before .before .before .before .before .before .before .args in
+    c .part-refusal .result ≡ first (partCauses (plan .given .0 .0) (args .weights .now) (args .tables .now) (args .d .now) (storeFits (plan .given .0 .0) (args .store .now)))
+parts c =
+    let plan = c .before .before .before .plan in
+    let args = c .before .before .before .before .before .before .before .before .before .before .args in
+    c .part-refusal .ensures ∙ ap (λ (n : ℕ). first (partCauses (plan .given .0 .0) (args .weights .now) (args .tables .now) (args .d .now) (eqb (length (args .store .now)) (n * (n + 1))))) (c .before .columns .ensures)
 
 returns : tie.Need-returns
 unfolding testCauses
-returns c = call-parts _ _ _ _ _ _ _ _ _ _ _ (accepted (c .before .before .before .before)) _ (parts (c .before)) (pos-of-ne-zero (c .if1 .taken))
+returns c =
+    let r = c .before .before .before .before in
+    call-parts _ _ _ _ _ _ _ _ _ _ _ (accepted r) _ (parts (c .before)) (pos-of-ne-zero (c .if1 .taken))
 
 is-reduced-requires : tie.Need-is-reduced-requires
 is-reduced-requires c κs =
-    let within = call-within _ _ _ _ _ (accepted (c .before .before .before .before)) in
+    let r = c .before .before .before .before in
+    let within = call-within _ _ _ _ _ (accepted r) in
     let fits = lent-of _ _ _ _ _ within (sym (c .before .part-refusal .ensures) ∙ c .if1 .left) .1 in
     (columns-small _ within (c .before .before .columns .ensures), (modulus within, eqb-true _ _ fits))
 
-reduced : (c : tie.After-is-reduced) → c .is-reduced .result ≡ isReduced (c .before .before .before .before .before .plan .given .0 .0 .p) (columns (c .before .before .before .before .before .plan .given .0 .0)) (cells (columns (c .before .before .before .before .before .plan .given .0 .0)) (c .before .before .before .before .before .before .before .before .before .before .before .before .args .store .now))
-reduced c = c .is-reduced .ensures ∙ ap (λ (n : ℕ). isReduced (c .before .before .before .before .before .plan .given .0 .0 .p) n (cells n (c .before .before .before .before .before .before .before .before .before .before .before .before .args .store .now))) (c .before .before .before .columns .ensures)
+reduced : (c : tie.After-is-reduced) →
+    let plan = c .before .before .before .before .before .plan in
+    let args = c .before .before .before .before .before .before .before .before .before .before .before .before .args in
+    c .is-reduced .result ≡ isReduced (plan .given .0 .0 .p) (columns (plan .given .0 .0)) (cells (columns (plan .given .0 .0)) (args .store .now))
+reduced c =
+    let plan = c .before .before .before .before .before .plan in
+    let args = c .before .before .before .before .before .before .before .before .before .before .before .before .args in
+    c .is-reduced .ensures ∙ ap (λ (n : ℕ). isReduced (plan .given .0 .0 .p) n (cells n (args .store .now))) (c .before .before .before .columns .ensures)
 
 returns-2 : tie.Need-returns-2
 unfolding testCauses
-returns-2 c = sym (call-passed _ _ _ _ _ _ _ _ _ _ _ (accepted (c .before .before .before .before .before .before)) (sym (c .before .before .if1 .left) ∙ parts (c .before .before .before)) ∙ rw (sym (reduced (c .before)) ∙ not-true (c .before .is-reduced .result) (c .if2 .taken)))
+returns-2 c =
+    let r1 = c .before .before .before .before .before .before in
+    let r2 = c .before .before .before in
+    sym (call-passed _ _ _ _ _ _ _ _ _ _ _ (accepted r1) (sym (c .before .before .if1 .left) ∙ parts r2) ∙ rw (sym (reduced (c .before)) ∙ not-true (c .before .is-reduced .result) (c .if2 .taken)))
 
 returns-3 : tie.Need-returns-3
 unfolding testCauses
@@ -73,7 +95,10 @@ returns-3 c = call-numbers _ _ _ _ _ _ _ _ _ _ _ (refused (c .before)) .0
 
 returns-4 : tie.Need-returns-4
 unfolding testCauses
-returns-4 c = sym (call-passed _ _ _ _ _ _ _ _ _ _ _ (accepted (c .before .before .before .before .before .before)) (sym (c .before .before .if1 .left) ∙ parts (c .before .before .before)) ∙ rw (sym (reduced (c .before)) ∙ not-false (c .before .is-reduced .result) (c .if2 .left)))
+returns-4 c =
+    let r1 = c .before .before .before .before .before .before in
+    let r2 = c .before .before .before in
+    sym (call-passed _ _ _ _ _ _ _ _ _ _ _ (accepted r1) (sym (c .before .before .if1 .left) ∙ parts r2) ∙ rw (sym (reduced (c .before)) ∙ not-false (c .before .is-reduced .result) (c .if2 .left)))
 
 pub test-spec : {M : Type 1} → statement M
 test-spec =

@@ -32,7 +32,9 @@ slice-write-bounds-2 : tie.Need-slice-write-bounds-2
 slice-write-bounds-2 c = search needs
 
 all-within-requires : tie.Need-all-within-requires
-all-within-requires c κs = rw length-set (sym (c .before .before .before .before .before .pre .0))
+all-within-requires c κs =
+    let pre = c .before .before .before .before .before .pre in
+    rw length-set (sym (pre .0))
 
 slice-write-bounds-3 : tie.Need-slice-write-bounds-3
 slice-write-bounds-3 c = rw length-set (omega arith)

@@ -31,7 +31,9 @@ loop-holds : tie.Need-loop-holds Inv-loop μ-loop
 loop-holds c = passed-none _ _ _ (c .before .before .pre .1 .0 .0) (c .before .before .pre .1 .1 .0) _ (c .before .before .pre .1 .1 .1)
 
 sub-begin : tie.Need-sub-begin Inv-loop μ-loop
-sub-begin c = row-begin _ _ _ (c .before .before .before .before .pre .1 .0 .0) (c .before .before .before .before .pre .1 .1 .0) (c .before .loop .inv) (c .loop-test .taken)
+sub-begin c =
+    let pre = c .before .before .before .before .pre in
+    row-begin _ _ _ (pre .1 .0 .0) (pre .1 .1 .0) (c .before .loop .inv) (c .loop-test .taken)
 
 sub-q : tie.Need-sub-q Inv-loop μ-loop
 sub-q c = omega arith
@@ -43,30 +45,50 @@ part-pass-row-start : tie.Need-part-pass-row-start Inv-loop μ-loop
 part-pass-row-start c = omega arith
 
 part-pass-row-end : tie.Need-part-pass-row-end Inv-loop μ-loop
-part-pass-row-end c = row-end _ _ _ (c .before .before .before .before .before .pre .1 .0 .0) (c .before .before .before .before .before .pre .1 .1 .0) (c .before .before .loop .inv) (c .before .loop-test .taken)
+part-pass-row-end c =
+    let pre = c .before .before .before .before .before .pre in
+    row-end _ _ _ (pre .1 .0 .0) (pre .1 .1 .0) (c .before .before .loop .inv) (c .before .loop-test .taken)
 
 pass-row-requires : tie.Need-pass-row-requires Inv-loop μ-loop
 pass-row-requires c κs =
-    let e = row-length _ _ _ (c .before .before .before .before .before .before .pre .1 .0 .0) (c .before .before .before .before .before .before .pre .1 .1 .0) (c .before .before .before .loop .inv) (c .before .before .loop-test .taken) in
-    (e ∙ sym (c .before .before .before .loop .inv .places), (omega (arith, e, c .before .before .before .loop .inv .within), c .before .before .before .before .before .before .pre .1 .0))
+    let pre = c .before .before .before .before .before .before .pre in
+    let loop = c .before .before .before .loop in
+    let e = row-length _ _ _ (pre .1 .0 .0) (pre .1 .1 .0) (loop .inv) (c .before .before .loop-test .taken) in
+    (e ∙ sym (loop .inv .places), (omega (arith, e, loop .inv .within), pre .1 .0))
 
 same-length : tie.Need-same-length Inv-loop μ-loop
-same-length c = passed-length _ _ _ (c .before .before .before .before .before .before .before .before .before .before .pre .1 .0 .0) (c .before .before .before .before .before .before .before .before .before .before .pre .1 .1 .0) (c .before .before .before .before .before .before .before .loop .inv) (c .before .before .before .before .before .before .loop-test .taken) _ _ (c .before .before .before .pass-row .ensures .1) ∙ sym (ap length (c .before .before .before .before .before .before .before .before .before .before .pre .1 .1 .1) ∙ tab-length _ _)
+same-length c =
+    let pre = c .before .before .before .before .before .before .before .before .before .before .pre in
+    let loop = c .before .before .before .before .before .before .before .loop in
+    let pass-row = c .before .before .before .pass-row in
+    passed-length _ _ _ (pre .1 .0 .0) (pre .1 .1 .0) (loop .inv) (c .before .before .before .before .before .before .loop-test .taken) _ _ (pass-row .ensures .1) ∙ sym (ap length (pre .1 .1 .1) ∙ tab-length _ _)
 
 returns : tie.Need-returns Inv-loop μ-loop
-returns c = passed-not _ _ _ (c .before .before .before .before .before .before .before .before .before .before .pre .1 .0 .0) (c .before .before .before .before .before .before .before .before .before .before .pre .1 .1 .0) (c .before .before .before .before .before .before .before .loop .inv) (c .before .before .before .before .before .before .loop-test .taken) (sym (c .before .before .before .pass-row .ensures .0) ∙ not-true _ (c .if1 .taken))
+returns c =
+    let pre = c .before .before .before .before .before .before .before .before .before .before .pre in
+    let loop = c .before .before .before .before .before .before .before .loop in
+    let pass-row = c .before .before .before .pass-row in
+    passed-not _ _ _ (pre .1 .0 .0) (pre .1 .1 .0) (loop .inv) (c .before .before .before .before .before .before .loop-test .taken) (sym (pass-row .ensures .0) ∙ not-true _ (c .if1 .taken))
 
 loop-less : tie.Need-loop-less Inv-loop μ-loop
 loop-less c = omega arith
 
 loop-again : tie.Need-loop-again Inv-loop μ-loop
-loop-again c = passed-next _ _ _ (c .before .before .before .before .before .before .before .before .before .before .pre .1 .0 .0) (c .before .before .before .before .before .before .before .before .before .before .pre .1 .1 .0) (c .before .before .before .before .before .before .before .loop .inv) (c .before .before .before .before .before .before .loop-test .taken) (sym (c .before .before .before .pass-row .ensures .0) ∙ not-false _ (c .if1 .left)) _ (c .before .before .before .pass-row .ensures .1)
+loop-again c =
+    let pre = c .before .before .before .before .before .before .before .before .before .before .pre in
+    let loop = c .before .before .before .before .before .before .before .loop in
+    let pass-row = c .before .before .before .pass-row in
+    passed-next _ _ _ (pre .1 .0 .0) (pre .1 .1 .0) (loop .inv) (c .before .before .before .before .before .before .loop-test .taken) (sym (pass-row .ensures .0) ∙ not-false _ (c .if1 .left)) _ (pass-row .ensures .1)
 
 same-length-2 : tie.Need-same-length-2 Inv-loop μ-loop
-same-length-2 c = c .before .loop .inv .places ∙ sym (ap length (c .before .before .before .before .pre .1 .1 .1) ∙ tab-length _ _)
+same-length-2 c =
+    let pre = c .before .before .before .before .pre in
+    c .before .loop .inv .places ∙ sym (ap length (pre .1 .1 .1) ∙ tab-length _ _)
 
 returns-2 : tie.Need-returns-2 Inv-loop μ-loop
-returns-2 c = passed-all _ _ _ (c .before .before .before .before .pre .1 .0 .0) (c .before .before .before .before .pre .1 .1 .0) (c .before .loop .inv) (omega arith)
+returns-2 c =
+    let pre = c .before .before .before .before .pre in
+    passed-all _ _ _ (pre .1 .0 .0) (pre .1 .1 .0) (c .before .loop .inv) (omega arith)
 
 pub pass-rows-spec : {M : Type 1} → statement M
 pass-rows-spec =
