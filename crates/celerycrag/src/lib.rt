@@ -11,9 +11,7 @@ ghost use Rattle.plan.specs.Causes.{first, result};
 ghost use Rattle.plan.specs.Numbers.{plan, columns};
 ghost use Rattle.plan.specs.Parts.{callCauses};
 ghost use Rattle.plan.specs.Rows as rows;
-ghost use Rattle.store.specs.Elimination.{outcome, cells};
 ghost use Rattle.store.specs.Calls as stores;
-ghost use Rattle.program.specs.Steps.{output, bootstraps};
 ghost use Rattle.program.specs.Layout.{stepCount};
 ghost use Rattle.program.specs.Calls as programs;
 ghost use Rattle.listing.specs.Norm as norms;
@@ -91,9 +89,9 @@ pub extern "C" fn celery_file(
     value: usize,
     column: &mut usize,
 ) -> u8
-    ensures { λ r. ⌜ r ≡ stores.numberOf (stores.answered (first (stores.fileCauses p s n m t (now (weights .entry)) (now (tables .entry)) (now (d .entry)) (now (store .entry)) entry value)) (outcome p (columns (plan p s n m t)) (cells (columns (plan p s n m t)) (now (store .entry))) (stores.equation (plan p s n m t) (now (weights .entry)) (now (tables .entry)) (now (d .entry)) entry value))) ⌝ }
-    ensures { λ r. ⌜ now (store .exit) ≡ result (first (stores.fileCauses p s n m t (now (weights .entry)) (now (tables .entry)) (now (d .entry)) (now (store .entry)) entry value)) (stores.filed (plan p s n m t) (now (weights .entry)) (now (tables .entry)) (now (d .entry)) (now (store .entry)) entry value) (now (store .entry)) ⌝ }
-    ensures { λ r. ⌜ now (column .exit) ≡ specs.columnOf (stores.answered (first (stores.fileCauses p s n m t (now (weights .entry)) (now (tables .entry)) (now (d .entry)) (now (store .entry)) entry value)) (outcome p (columns (plan p s n m t)) (cells (columns (plan p s n m t)) (now (store .entry))) (stores.equation (plan p s n m t) (now (weights .entry)) (now (tables .entry)) (now (d .entry)) entry value))) (columns (plan p s n m t)) (now (column .entry)) ⌝ }
+    ensures { λ r. ⌜ r ≡ stores.numberOf (stores.fileAnswer p s n m t (now (weights .entry)) (now (tables .entry)) (now (d .entry)) (now (store .entry)) entry value) ⌝ }
+    ensures { λ r. ⌜ now (store .exit) ≡ stores.fileStore p s n m t (now (weights .entry)) (now (tables .entry)) (now (d .entry)) (now (store .entry)) entry value ⌝ }
+    ensures { λ r. ⌜ now (column .exit) ≡ specs.columnOf (stores.fileAnswer p s n m t (now (weights .entry)) (now (tables .entry)) (now (d .entry)) (now (store .entry)) entry value) (columns (plan p s n m t)) (now (column .entry)) ⌝ }
 {
     let a = store::file(p, s, n, m, t, weights, tables, d, store, entry, value);
     match a {
@@ -190,9 +188,9 @@ pub extern "C" fn celery_run(
     y: &mut u8,
     count: &mut usize,
 ) -> u8
-    ensures { λ r. ⌜ r ≡ programs.numberOf (programs.ran (first (programs.runCauses p s n m t (now (weights .entry)) (now (tables .entry)) (now (d .entry)) (now (steps .entry)) (now (digits .entry)))) (output (plan p s n m t) (now (tables .entry)) (now (steps .entry)) (now (digits .entry))) (bootstraps (now (steps .entry)))) ⌝ }
-    ensures { λ r. ⌜ now (y .exit) ≡ specs.outputOf (programs.ran (first (programs.runCauses p s n m t (now (weights .entry)) (now (tables .entry)) (now (d .entry)) (now (steps .entry)) (now (digits .entry)))) (output (plan p s n m t) (now (tables .entry)) (now (steps .entry)) (now (digits .entry))) (bootstraps (now (steps .entry)))) (now (y .entry)) ⌝ }
-    ensures { λ r. ⌜ now (count .exit) ≡ specs.countOf (programs.ran (first (programs.runCauses p s n m t (now (weights .entry)) (now (tables .entry)) (now (d .entry)) (now (steps .entry)) (now (digits .entry)))) (output (plan p s n m t) (now (tables .entry)) (now (steps .entry)) (now (digits .entry))) (bootstraps (now (steps .entry)))) (now (count .entry)) ⌝ }
+    ensures { λ r. ⌜ r ≡ programs.numberOf (programs.runAnswer p s n m t (now (weights .entry)) (now (tables .entry)) (now (d .entry)) (now (steps .entry)) (now (digits .entry))) ⌝ }
+    ensures { λ r. ⌜ now (y .exit) ≡ specs.outputOf (programs.runAnswer p s n m t (now (weights .entry)) (now (tables .entry)) (now (d .entry)) (now (steps .entry)) (now (digits .entry))) (now (y .entry)) ⌝ }
+    ensures { λ r. ⌜ now (count .exit) ≡ specs.countOf (programs.runAnswer p s n m t (now (weights .entry)) (now (tables .entry)) (now (d .entry)) (now (steps .entry)) (now (digits .entry))) (now (count .entry)) ⌝ }
 {
     let a = program::run(p, s, n, m, t, weights, tables, d, steps, digits);
     match a {
@@ -219,8 +217,8 @@ pub extern "C" fn celery_worst_norm(
     beta: &[u8],
     norm: &mut usize,
 ) -> u8
-    ensures { λ r. ⌜ r ≡ norms.numberOf (norms.normed (first (norms.normCauses p s n m t (now (weights .entry)) (now (tables .entry)) (now (d .entry)) (now (beta .entry)))) (norms.worst (plan p s n m t) (now (weights .entry)) (now (d .entry)) (now (beta .entry)))) ⌝ }
-    ensures { λ r. ⌜ now (norm .exit) ≡ specs.normOf (norms.normed (first (norms.normCauses p s n m t (now (weights .entry)) (now (tables .entry)) (now (d .entry)) (now (beta .entry)))) (norms.worst (plan p s n m t) (now (weights .entry)) (now (d .entry)) (now (beta .entry)))) (now (norm .entry)) ⌝ }
+    ensures { λ r. ⌜ r ≡ norms.numberOf (norms.normAnswer p s n m t (now (weights .entry)) (now (tables .entry)) (now (d .entry)) (now (beta .entry))) ⌝ }
+    ensures { λ r. ⌜ now (norm .exit) ≡ specs.normOf (norms.normAnswer p s n m t (now (weights .entry)) (now (tables .entry)) (now (d .entry)) (now (beta .entry))) (now (norm .entry)) ⌝ }
 {
     let a = listing::worst_norm(p, s, n, m, t, weights, tables, d, beta);
     match a {

@@ -4,6 +4,7 @@
 --     worst P w d β         the worst norm
 --     normCauses            the causes of the call: 1 2 3 4 5
 --     normed k x            its answer from its refusal k: `Norm` with the number, or `Refused` with 01's number
+--     normAnswer            what `worst_norm` answers
 --     numberOf a            01's number for each case of that answer, 0 where there is a norm
 use mathlib.Core.Bool.{Bool, not}
 use mathlib.Core.List.{List, [], _∷_}
@@ -13,7 +14,8 @@ use lib.ListN.{length}
 use Rattle.lists.specs.Places.{sum, largest, at}
 use Rattle.field.specs.Rows.{allBelow}
 use Rattle.plan.specs.declared.numbers.Plan.{Plan}
-use Rattle.plan.specs.Numbers.{variables, columns}
+use Rattle.plan.specs.Causes.{first}
+use Rattle.plan.specs.Numbers.{variables, columns, plan}
 use Rattle.plan.specs.Parts.{linkStart, callCauses}
 use Rattle.listing.specs.declared.norm.Normed.{Normed}
 use Rattle.listing.specs.declared.norm.Normed.the-variants.{Norm, Refused}
@@ -34,6 +36,10 @@ normCauses p s n m t w T d β =
 unfoldable pub normed : ℕ → ℕ → Normed
 normed zero x = Norm x
 normed (suc k) x = Refused (suc k)
+
+-- the call as a whole
+abbrev pub normAnswer : ℕ → ℕ → ℕ → ℕ → ℕ → List ℕ → List ℕ → List ℕ → List ℕ → Normed
+normAnswer p s n m t w T d β = normed (first (normCauses p s n m t w T d β)) (worst (plan p s n m t) w d β)
 
 abbrev pub numberOf : Normed → ℕ
 numberOf (Norm x) = 0

@@ -4,8 +4,7 @@ ghost use Prim.Native.Nat.{_+_, _*_, _≤_, max};
 ghost use lib.ListN.{length};
 ghost use Rattle.lists.specs.Places.{largest};
 ghost use Rattle.field.specs.Rows.{dot};
-ghost use Rattle.plan.specs.Causes.{first};
-ghost use Rattle.plan.specs.Numbers.{Within, variables, columns, plan};
+ghost use Rattle.plan.specs.Numbers.{Within, variables, columns};
 ghost use Rattle.plan.specs.Parts.{linkStart};
 ghost use Rattle.listing.specs.Norm as specs;
 use plan::Checked;
@@ -106,7 +105,7 @@ pub fn worst_norm(
     d: &[u8],
     beta: &[u8],
 ) -> Normed
-    ensures { λ r. ⌜ r ≡ specs.normed (first (specs.normCauses p s n m t (now (weights .entry)) (now (tables .entry)) (now (d .entry)) (now (beta .entry)))) (specs.worst (plan p s n m t) (now (weights .entry)) (now (d .entry)) (now (beta .entry))) ⌝ }
+    ensures { λ r. ⌜ r ≡ specs.normAnswer p s n m t (now (weights .entry)) (now (tables .entry)) (now (d .entry)) (now (beta .entry)) ⌝ }
 {
     match Plan::new(p, s, n, m, t) {
         Checked::Refused(k) => Normed::Refused(k),

@@ -2,7 +2,6 @@
 ghost use mathlib.Core.Path.{_≡_};
 ghost use Rattle.plan.specs.Causes.{first};
 ghost use Rattle.plan.specs.Numbers.{Within, plan};
-ghost use Rattle.program.specs.Steps.{output, bootstraps};
 ghost use Rattle.program.specs.Calls as specs;
 use crate::running::Ran;
 use crate::running::run_steps;
@@ -101,7 +100,7 @@ pub fn write<'a>(
     beta: &[u8],
     steps: &'a mut [u16],
 ) -> &'a mut [u16]
-    ensures { λ r. ⌜ now r ≡ specs.handed (first (specs.writeCauses p s n m t (now (weights .entry)) (now (tables .entry)) (now (d .entry)) (now (beta .entry)) (now (steps .entry)))) (plan p s n m t) (now (weights .entry)) (now (d .entry)) (now (beta .entry)) ⌝ }
+    ensures { λ r. ⌜ now r ≡ specs.writerHands p s n m t (now (weights .entry)) (now (tables .entry)) (now (d .entry)) (now (beta .entry)) (now (steps .entry)) ⌝ }
     ensures { λ r. ⌜ r .ptr ≡ steps .entry .ptr ⌝ }
 {
     if write_into(p, s, n, m, t, weights, tables, d, beta, steps) != 0 {
@@ -124,7 +123,7 @@ pub fn run(
     steps: &[u16],
     digits: &[u8],
 ) -> Ran
-    ensures { λ r. ⌜ r ≡ specs.ran (first (specs.runCauses p s n m t (now (weights .entry)) (now (tables .entry)) (now (d .entry)) (now (steps .entry)) (now (digits .entry)))) (output (plan p s n m t) (now (tables .entry)) (now (steps .entry)) (now (digits .entry))) (bootstraps (now (steps .entry))) ⌝ }
+    ensures { λ r. ⌜ r ≡ specs.runAnswer p s n m t (now (weights .entry)) (now (tables .entry)) (now (d .entry)) (now (steps .entry)) (now (digits .entry)) ⌝ }
 {
     match Plan::new(p, s, n, m, t) {
         Checked::Refused(k) => Ran::Refused(k),

@@ -12,6 +12,7 @@
 --     filed                      the store after filing
 --     Spans .. S′                S′ is in reduced form, and spans the same equations as the old store and the entry
 --     OneReduced                 the store after filing is the one that does
+--     fileAnswer, fileStore      what `file` answers, and the store it leaves
 --     coefficients C store       the coefficients read off: "coefficient q is the right-hand side of row q"
 use mathlib.Core.Path.{_≡_}
 use mathlib.Core.Bool.{Bool, not, _&&_}
@@ -23,7 +24,8 @@ use lib.ListN.{length, replicate}
 use Rattle.lists.specs.Places.{tab, at}
 use Rattle.field.specs.Residues.{Residues}
 use Rattle.plan.specs.declared.numbers.Plan.{Plan}
-use Rattle.plan.specs.Numbers.{columns}
+use Rattle.plan.specs.Numbers.{columns, plan}
+use Rattle.plan.specs.Causes.{first, result}
 use Rattle.plan.specs.Parts.{callCauses}
 use Rattle.plan.specs.Rows.{row, entryCause}
 use Rattle.store.specs.Elimination.{Satisfies, Solves, Reduced, Outcome, new, implied, contradiction, isReduced, outcome, after, readOff, cells, flat}
@@ -94,3 +96,12 @@ pub record OneReduced (P : Plan) (w T d S : List ℕ) (i v : ℕ) : Type 0 where
 
 unfoldable pub coefficients : ℕ → List ℕ → List ℕ
 coefficients C store = tab C (readOff C (cells C store))
+
+-- the calls as a whole, as their contracts and demand 3 say them
+abbrev pub fileAnswer : ℕ → ℕ → ℕ → ℕ → ℕ → List ℕ → List ℕ → List ℕ → List ℕ → ℕ → ℕ → Filed
+fileAnswer p s n m t w T d store i v =
+    let P = plan p s n m t in
+    answered (first (fileCauses p s n m t w T d store i v)) (outcome p (columns P) (cells (columns P) store) (equation P w T d i v))
+
+abbrev pub fileStore : ℕ → ℕ → ℕ → ℕ → ℕ → List ℕ → List ℕ → List ℕ → List ℕ → ℕ → ℕ → List ℕ
+fileStore p s n m t w T d store i v = result (first (fileCauses p s n m t w T d store i v)) (filed (plan p s n m t) w T d store i v) store

@@ -6,7 +6,6 @@ ghost use Prim.Native.Nat.{_+_, _*_, _≤_};
 ghost use lib.Dec.{eqb};
 ghost use Rattle.plan.specs.Causes.{first, result};
 ghost use Rattle.plan.specs.Numbers.{plan, columns};
-ghost use Rattle.store.specs.Elimination.{outcome, cells};
 ghost use Rattle.store.specs.Calls as specs;
 use crate::elimination::Filed;
 use crate::elimination::file_entry;
@@ -60,8 +59,8 @@ pub fn file(
     entry: usize,
     value: usize,
 ) -> Filed
-    ensures { λ r. ⌜ r ≡ specs.answered (first (specs.fileCauses p s n m t (now (weights .entry)) (now (tables .entry)) (now (d .entry)) (now (store .entry)) entry value)) (outcome p (columns (plan p s n m t)) (cells (columns (plan p s n m t)) (now (store .entry))) (specs.equation (plan p s n m t) (now (weights .entry)) (now (tables .entry)) (now (d .entry)) entry value)) ⌝ }
-    ensures { λ r. ⌜ now (store .exit) ≡ result (first (specs.fileCauses p s n m t (now (weights .entry)) (now (tables .entry)) (now (d .entry)) (now (store .entry)) entry value)) (specs.filed (plan p s n m t) (now (weights .entry)) (now (tables .entry)) (now (d .entry)) (now (store .entry)) entry value) (now (store .entry)) ⌝ }
+    ensures { λ r. ⌜ r ≡ specs.fileAnswer p s n m t (now (weights .entry)) (now (tables .entry)) (now (d .entry)) (now (store .entry)) entry value ⌝ }
+    ensures { λ r. ⌜ now (store .exit) ≡ specs.fileStore p s n m t (now (weights .entry)) (now (tables .entry)) (now (d .entry)) (now (store .entry)) entry value ⌝ }
 {
     match Plan::new(p, s, n, m, t) {
         Checked::Refused(k) => Filed::Refused(k),
