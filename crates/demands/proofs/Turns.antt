@@ -1,9 +1,11 @@
 -- One call of a list. `Holds G S K`: the store S has its length and reduced form, the lists that solve it are those that satisfy each
 -- entry of K, and the entries of K are in range.
+--     C, p, eqOf         columns, prime, and the equation of an entry with its value, of a plan as it is lent
+--     unkept-same        a call that is not kept leaves its store
+--     within, lent       the accepted plan is within its limits, and its parts are as it asks
 --     holds-empty        the empty store, with nothing kept
---     refused-unless     a call that is not kept was refused, and leaves its store
 --     turn               what demand 3 claims of a call that is lent the plan
---     holds-kept, holds-same       the state after it
+--     holds-kept         the state after a call that is kept
 -- Assumes nothing.
 use mathlib.Core.Path.{_≡_, refl, sym, ap, subst, _∙_}
 use mathlib.Core.Bool.{Bool, true, false, cond, true≢false, false≢true}

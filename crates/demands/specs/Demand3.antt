@@ -1,13 +1,17 @@
 -- 01, "Lists of filings": one claim about a whole list of filings, over the definitions that the contracts of `file`, `coefficients`, the
 -- writer and `run` cite, so that it speaks of the functions.
 --     Given                     five numbers and three parts, as a plan is lent; `Accepted G`: they meet none of causes 1 to 5
---     Call                      what one call of `file` is lent
---     answer c, storeAfter c    what `file` answers and leaves, in the words of its contract
+--     Call                      what one call of `file` is lent; `call G S i v`: the plan G, the store S, and (i, v)
+--     refusal c, answer c, storeAfter c      the number that refuses it or 0, what `file` answers, and what it leaves, in the words of its contract
 --     Filing                    one call of the list: lent that plan and the store as last left, or lent something else
+--     isKept answer             New or Implied
 --     Belongs fs                a call that is lent something else was refused
+--     emptyStore G              all zeros
 --     storeOf, keptOf           the store after a list of calls, and the entries kept, told from the calls and their answers
+--     Reproduces G β i v        row i times β, summed, is v modulo p
 --     Contradicts G K i v       no coefficients reproduce (i, v) together with all of K
 --     Turn G S K f              what is claimed of one call, with the store S before it and the entries K kept before it
+--     Ours G S K i v            the same, of a call that is lent the plan
 --     coefficientsRead, programWritten, runAnswer       what `coefficients` leaves, what the writer hands back, what `run` answers
 --     Answers G β program i     the program, run on the digits of entry i, answers Equation 1 on β modulo p and m + 2t
 --     Program G K β program     what is claimed of the program written after the last call from the coefficients β
@@ -91,6 +95,7 @@ Belongs (other c ∷ fs) = (isKept (answer c) ≡ false) × Belongs fs
 abbrev pub emptyStore : Given → List ℕ
 emptyStore G = replicate (columns (G .numbers) * (columns (G .numbers) + 1)) 0
 
+-- at `other`: in 01 such a call is lent S, or S in another length; `Turn` says that it leaves what it was lent, so S stays
 unfoldable pub storeOf : Given → List ℕ → List Filing → List ℕ
 storeOf G S [] = S
 storeOf G S (ours i v ∷ fs) = storeOf G (storeAfter (call G S i v)) fs
