@@ -1,9 +1,11 @@
 -- One call of a list. `Holds G S K`: the store S has its length and reduced form, the lists that solve it are those that satisfy each
 -- entry of K, and the entries of K are in range.
+--     C, p, eqOf         columns, prime, and the equation of an entry with its value, of a plan as it is lent
+--     unkept-same        a call that is not kept leaves its store
+--     within, lent       the accepted plan is within its limits, and its parts are as it asks
 --     holds-empty        the empty store, with nothing kept
---     refused-unless     a call that is not kept was refused, and leaves its store
 --     turn               what demand 3 claims of a call that is lent the plan
---     holds-kept, holds-same       the state after it
+--     holds-kept         the state after a call that is kept
 -- Assumes nothing.
 use mathlib.Core.Path.{_≡_, refl, sym, ap, subst, _∙_}
 use mathlib.Core.Bool.{Bool, true, false, cond, true≢false, false≢true}
@@ -15,6 +17,7 @@ use lib.Dec.{ltb}
 use lib.ListN.{length, length-replicate}
 use borrow.Author.Tests.{eq-eqb, lt-ltb, ltb-true, not-false}
 use Rattle.lists.specs.Places.{at}
+use Rattle.lists.proofs.Parts.{zeros-at}
 use Rattle.field.specs.Primes.{oddPrime}
 use Rattle.plan.specs.declared.numbers.Plan.{Plan}
 use Rattle.plan.specs.Causes.{first, result}
@@ -30,8 +33,7 @@ use Rattle.store.proofs.Bytes.{flat-length, cells-flat}
 use Rattle.store.proofs.ReducedForm.{isReduced-means, reduced-ext}
 use Rattle.store.proofs.SamePlaces.{solves-ext}
 use Rattle.store.proofs.Filing.{after-reduced, after-solves}
-use Rattle.store.proofs.Filings.{empty-reduced, empty-solves}
-use Rattle.store.proofs.Readiness.{zeros-at, no-conflict}
+use Rattle.store.proofs.Readiness.{no-conflict, empty-reduced, empty-solves}
 use Rattle.store.proofs.Contradictions.{contradiction-exactly}
 use Rattle.demands.specs.Demand3.{Given, Accepted, Call, call, refusal, answer, storeAfter, isKept, emptyStore, Reproduces, Contradicts, Ours}
 use Rattle.demands.proofs.Equations.{equation-row, satisfies-exactly}
@@ -153,7 +155,7 @@ module _ (G : Given) (accepted : Accepted G) where
 
     -- the answer in range
     answer-is : i < entries (G .numbers) → v < G .numbers .s → answer (call G S i v) ≡ answered (cond (isContradiction found) 9 0) found
-    unfolding answer found
+    unfolding answer refusal found
     answer-is hi hv = ap (λ (k : ℕ). answered k found) (in-range hi hv)
 
     row : v < G .numbers .s → (j : ℕ) → j ≤ C G → eqOf G i v j < p G
@@ -186,7 +188,7 @@ module _ (G : Given) (accepted : Accepted G) where
     -- a kept entry is in range, and the store after it is the filed one
     module _ (kept : isKept (answer (call G S i v)) ≡ true) where
       passes : (refusal (call G S i v) ≡ 0) × (found ≡ contradiction → ⊥)
-      unfolding answer found
+      unfolding answer refusal found
       passes = kept-passes (refusal (call G S i v)) found kept
 
       kept-range : (i < entries (G .numbers)) × (v < G .numbers .s)
@@ -198,7 +200,7 @@ module _ (G : Given) (accepted : Accepted G) where
       T = after (p G) (C G) (cells (C G) S) (eqOf G i v)
 
       stored : storeAfter (call G S i v) ≡ flat (C G) T
-      unfolding storeAfter filed T
+      unfolding storeAfter refusal filed T
       stored = ap (λ (k : ℕ). result k (flat (C G) T) S) (passes .0)
 
       places : (q j : ℕ) → q < C G → j ≤ C G → T q j ≡ cells (C G) (flat (C G) T) q j

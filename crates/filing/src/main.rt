@@ -1,6 +1,9 @@
-// The filing program: a plan text on standard input, the program's listing or a refusal on standard output. `text` judges and prints;
-// here bytes are only moved. Nothing is printed before the text has ended, and where standard input cannot be read to its end, only
-// standard error is written to.
+// The filing program: a plan text on standard input, the program's listing or a refusal on standard output.
+//
+// Holds `main` alone, with the buffers and the loop over standard input: here bytes are only moved, `text` judges and prints (`start`,
+// `feed`, `finish`). Nothing is printed before the text has ended, and where standard input cannot be read to its end, only standard error
+// is written to. Stands on `text`, and on `io`, `libc` and `os` of the kit. Renders 01, "The filing program"; docs/FORMAT.md explains it to
+// users.
 ghost use Prim.Native.Nat.{_≤_};
 ghost use lib.ListN.{length};
 ghost use Rattle.text.specs.Progress.{Fits, stateOf, Room};

@@ -23,5 +23,4 @@ pub mod Outcomes
 pub mod EntryEquations
 pub mod StoreCalls
 pub mod Readiness
-pub mod Filings
 pub mod OneReducedForm

@@ -1,6 +1,5 @@
 -- Stores that are ready for a filing: the empty one, and each after a filing that was not refused.
 --     empty-reduced, empty-solves     the empty store is reduced, and everything solves it
---     zeros-at         a list of zeros, by place
 --     empty-ready      the empty store's bytes
 --     Unmet, unmet     a filing that was not refused: its plan is within limits, its parts and store are as asked, its value is below s, and
 --                      it is no contradiction
@@ -12,13 +11,11 @@ use mathlib.Core.Bool.{Bool, true, false}
 use mathlib.Core.Logic.{inl}
 use mathlib.Core.List.{List, [], _∷_}
 use Prim.Native.Nat.{ℕ, _+_, _*_, _<_}
-use native.Mathlib.Decide.{decLt}
 use native.Mathlib.Omega.{arith}
 use lib.Dec.{ltb}
-use lib.ListN.{length, replicate, length-replicate, getD-replicate}
+use lib.ListN.{length, length-replicate}
 use borrow.Author.Tests.{eqb-true, ltb-true, not-false}
-use Rattle.lists.specs.Places.{at}
-use Rattle.lists.proofs.Parts.{at-past}
+use Rattle.lists.proofs.Parts.{zeros-at}
 use Rattle.field.specs.Primes.{oddPrime}
 use Rattle.plan.specs.declared.numbers.Plan.{Plan}
 use Rattle.plan.specs.Causes.{first}
@@ -43,12 +40,6 @@ empty-reduced p C prime = record { residues = λ q j l k. positive p prime; rows
 
 pub empty-solves : (p C : ℕ) (β : ℕ → ℕ) → Solves p C empty β
 empty-solves p C β q l = satisfies-zero p C β (empty q) (λ j k. refl)
-
-pub zeros-at : (n k : ℕ) → at (replicate n 0) k ≡ 0
-zeros-at n k = elim (decLt k n) [
-  | yes l ↦ getD-replicate n k 0 0 l
-  | no l ↦ at-past (replicate n 0) k (rw length-replicate (omega arith))
-]
 
 pub empty-ready : (P : Plan) → Within P → Ready (P .p) (columns P) (emptyStore P)
 empty-ready P within =

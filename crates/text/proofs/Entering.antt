@@ -23,8 +23,7 @@ use Rattle.store.specs.Calls.{equation, fileCauses, answered, numberOf, filed}
 use Rattle.store.specs.declared.elimination.Filed.{Filed}
 use Rattle.store.proofs.Readiness.{no-conflict}
 use Rattle.text.specs.Lines.{asks, numbers, same}
-use Rattle.text.specs.Meaning.{names, header, entryNames, entries, next, cause, unless, planNames, pairNames, judged}
-use Rattle.text.specs.Progress.{entryCauses, entered}
+use Rattle.text.specs.Meaning.{names, header, entryNames, entries, next, cause, unless, planNames, pairNames, entryCauses, entered, judged}
 use Rattle.text.proofs.Judging.{refuses, reaches}
 
 store-fits : (c : ℕ) → c ≤ 255 → c * (c + 1) ≤ 65280

@@ -1,12 +1,11 @@
 -- The end of a text, from the code's state.
---     not-stopped, not-entries     what the tests of the stage leave
+--     not-entries                  what the test of the stage leaves
 --     finish-stopped, finish-broken, finish-early, finish-filed      what is printed, by the stage and the bytes held
 --     entries-inside, filed-sound      at the entries, the parts and the store are as the listing needs them
 --     program-room, program-fits, program-front, program-written, program-length      the program in a lent slice
 --     read-front, read-back, read-part, read-residues      the coefficients in a local array
 --     prints                       what is printed equals a definition
 --     sound-state, prints-meaning      what `finish` asks for and prints, after all bytes of a text
---     room-kept                    room enough for a text, in buffers that were written to
 -- Assumes nothing.
 use mathlib.Core.Path.{_≡_, refl, sym, ap, subst, _∙_}
 use mathlib.Core.List.{List, [], _∷_, _++_, append-nil}
@@ -42,12 +41,6 @@ use Rattle.text.specs.declared.turns.State as code
 use Rattle.text.proofs.stages.Stage.{the-type}
 use Rattle.text.proofs.Streaming.{streamed}
 use Rattle.text.proofs.Soundness.{sound-pushes, lent}
-
--- what is left where the stage was not the one looked for
-pub not-stopped : (stage : Stage) → OneOf (0 ∷ 1 ∷ 2 ∷ 3 ∷ 4 ∷ 5 ∷ 6 ∷ []) (tagOf the-type stage) → (k : ℕ) → stage ≡ Stopped k → ⊥
-not-stopped stage h k e =
-    let keys : List ℕ = 0 ∷ 1 ∷ 2 ∷ 3 ∷ 4 ∷ 5 ∷ 6 ∷ [] in
-    miss keys 7 tt (subst (λ (s : Stage). OneOf keys (tagOf the-type s)) e h)
 
 pub not-entries : (stage : Stage) → OneOf (0 ∷ 1 ∷ 2 ∷ 3 ∷ 4 ∷ 5 ∷ 7 ∷ []) (tagOf the-type stage) → (P : Plan) (a b c : ℕ) → stage ≡ Entries P a b c → ⊥
 not-entries stage h P a b c e =
@@ -183,13 +176,3 @@ module _ (first last : code.State) (text line w T d S line′ w′ T′ d′ S�
 
   pub prints-meaning : finish (stateOf last line′ w′ T′ d′ S′) ≡ meaning text
   prints-meaning = ap finish all-read ∙ streamed text
-
--- buffers that keep their lengths keep their room
-pub room-kept : {w T d S w′ T′ d′ S′ : List ℕ} → Room w T d S → length w′ ≡ length w → length T′ ≡ length T → length d′ ≡ length d → length S′ ≡ length S → Room w′ T′ d′ S′
-room-kept r e1 e2 e3 e4 =
-    record {
-      weights-room = omega (arith, r .weights-room);
-      tables-room = omega (arith, r .tables-room);
-      products-room = omega (arith, r .products-room);
-      store-room = omega (arith, r .store-room);
-    }

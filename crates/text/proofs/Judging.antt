@@ -22,8 +22,7 @@ use Rattle.plan.specs.declared.numbers.Checked.the-variants.{Accepted, Refused}
 use Rattle.plan.specs.Causes.{first, result}
 use Rattle.plan.specs.Numbers.{columns, numberCauses, plan, answer, checked}
 use Rattle.plan.proofs.Refusals.{first-refused, first-passed, call-plan}
-use Rattle.text.specs.Lines.{cutAt, number, asks, numbers}
-use Rattle.text.specs.Words.{partCauses}
+use Rattle.text.specs.Lines.{cutAt, number, asks, numbers, lineCauses}
 use Rattle.text.specs.Meaning.{Place, header, weights, table, product, entryNames, Judged, next, cause, unless, afterLinks, afterProducts, headerCauses, headerPlan, judged}
 use Rattle.text.proofs.Filling.{asked}
 
@@ -118,7 +117,7 @@ module _ (line ns : List ℕ) (e : ns ≡ numbers line) (asks5 : asks 5 line ≡
     header-passed l = outcome-passed (at ns 0) (at ns 1) (at ns 2) (at ns 3) (at ns 4) Q h l ∙ is-outcome
 
 -- a line of a part: r is its refusal
-module _ (n p r : ℕ) (line : List ℕ) (e : r ≡ first (partCauses n p line)) where
+module _ (n p r : ℕ) (line : List ℕ) (e : r ≡ first (lineCauses n p line)) where
   part-count : r ≡ 0 → length (numbers line) ≡ n
   unfolding numbers
   part-count z = by (asks n line) refl
@@ -127,10 +126,10 @@ module _ (n p r : ℕ) (line : List ℕ) (e : r ≡ first (partCauses n p line))
       by true a = length-map (cutAt 32 line) number ∙ asked n line a .1
       by false a = let w : r ≡ 13 = e ∙ rw a in absurd (omega arith)
 
-  part-refuses : (place : Place) → (r ≡ 0 → ⊥) → cause r ≡ unless (first (partCauses n p line)) place
+  part-refuses : (place : Place) → (r ≡ 0 → ⊥) → cause r ≡ unless (first (lineCauses n p line)) place
   part-refuses place h = refuses r place h ∙ ap (λ (k : ℕ). unless k place) e
 
-  part-reaches : (place : Place) → r ≡ 0 → next place ≡ unless (first (partCauses n p line)) place
+  part-reaches : (place : Place) → r ≡ 0 → next place ≡ unless (first (lineCauses n p line)) place
   part-reaches place z = reaches r place z ∙ ap (λ (k : ℕ). unless k place) e
 
   -- the filled part of the buffer grows by the line's numbers
@@ -159,7 +158,7 @@ module _ (n p r : ℕ) (line : List ℕ) (e : r ≡ first (partCauses n p line))
           ∙ ap (λ (k : ℕ). result k (placed buf a (numbers line)) buf) (sym z)
 
 module _ (P : Plan) (k r : ℕ) (line : List ℕ) where
-  module _ (e : r ≡ first (partCauses (P .n + k) (P .p) line)) where
+  module _ (e : r ≡ first (lineCauses (P .n + k) (P .p) line)) where
     pub weights-refuses : (w T : List ℕ) → (r ≡ 0 → ⊥) → cause r ≡ judged (weights P k w T) line
     unfolding judged
     weights-refuses w T h = part-refuses (P .n + k) (P .p) r line e (table P k (w ++ numbers line) T) h
@@ -170,7 +169,7 @@ module _ (P : Plan) (k r : ℕ) (line : List ℕ) where
         ap (λ (l : List ℕ). next (table P k l T)) (part-filled (P .n + k) (P .p) r line e w out a z h o)
         ∙ part-reaches (P .n + k) (P .p) r line e (table P k (take a w ++ numbers line) T) z
 
-  module _ (e : r ≡ first (partCauses (P .p) (P .p) line)) where
+  module _ (e : r ≡ first (lineCauses (P .p) (P .p) line)) where
     pub table-refuses : (w T : List ℕ) → (r ≡ 0 → ⊥) → cause r ≡ judged (table P k w T) line
     unfolding judged
     table-refuses w T h = part-refuses (P .p) (P .p) r line e (afterLinks P (suc k) w (T ++ numbers line)) h
@@ -181,7 +180,7 @@ module _ (P : Plan) (k r : ℕ) (line : List ℕ) where
         ap₂ (λ (i : ℕ) (l : List ℕ). next (afterLinks P i w l)) (add-one k) (part-filled (P .p) (P .p) r line e T out b z h o)
         ∙ part-reaches (P .p) (P .p) r line e (afterLinks P (suc k) w (take b T ++ numbers line)) z
 
-  module _ (e : r ≡ first (partCauses (P .n + P .m) (P .p) line)) where
+  module _ (e : r ≡ first (lineCauses (P .n + P .m) (P .p) line)) where
     pub product-refuses : (w T d : List ℕ) → (r ≡ 0 → ⊥) → cause r ≡ judged (product P k w T d) line
     unfolding judged
     product-refuses w T d h = part-refuses (P .n + P .m) (P .p) r line e (afterProducts P (suc k) w T (d ++ numbers line)) h

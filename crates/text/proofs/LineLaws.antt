@@ -2,7 +2,10 @@
 --     next-place                            reading a number goes on behind it, at most one past the end
 --     counted, counted-start, ..            whether the words from a place on are numerals and, with i before them, n in number
 --     belowFrom, below-start, ..            whether the numbers from a place on are below p
---     same-start, same-step, ..             two byte strings from a place on
+--     words-found                           the words from a place on, where a number stands there
+--     well-start, well-next, never          well-formed words from a place on: no number there is malformed
+--     below-cons                            the test of a list, from its front
+--     same-unlike, same-step, same-refuted, same-end      two byte strings, from a place on
 -- Assumes nothing.
 use mathlib.Core.Path.{_≡_, refl, sym, ap, _∙_}
 use mathlib.Core.Bool.{Bool, true, false, _&&_, true≢false}

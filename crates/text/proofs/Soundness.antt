@@ -23,11 +23,10 @@ use Rattle.plan.specs.Numbers.{variables, columns, numberCauses, Within}
 use Rattle.plan.specs.Parts.{Lent}
 use Rattle.plan.proofs.Bounds.{prime-low}
 use Rattle.plan.proofs.Refusals.{within-of, first-none}
-use Rattle.store.specs.Calls.{fileCauses, filed}
+use Rattle.store.specs.Calls.{fileCauses}
 use Rattle.store.proofs.Readiness.{empty-ready, value-below, filed-ready}
-use Rattle.text.specs.Lines.{cutAt, number, asks, numbers, same}
-use Rattle.text.specs.Words.{partCauses}
-use Rattle.text.specs.Meaning.{Place, names, header, weights, table, product, entryNames, entries, Judged, next, cause, unless, afterLinks, afterProducts, headerCauses, headerPlan, judged, planNames, pairNames}
+use Rattle.text.specs.Lines.{cutAt, number, asks, numbers, lineCauses, same}
+use Rattle.text.specs.Meaning.{Place, names, header, weights, table, product, entryNames, entries, Judged, next, cause, unless, afterLinks, afterProducts, headerCauses, headerPlan, entryCauses, entered, judged, planNames, pairNames}
 use Rattle.text.specs.Streaming.{State, reading, stopped, turned, push, pushes, hold}
 use Rattle.text.specs.Progress.{Planned}
 use Rattle.text.specs.Sound.{Parts, Sound, SoundState}
@@ -51,7 +50,7 @@ below-append p (x ∷ xs) ys hx hy =
     below-cons p x (xs ++ ys) ∙ both (ltb x p) (allBelow p (xs ++ ys)) (h .0) (below-append p xs ys (h .1) hy)
 
 -- a line of a part: as many numbers as asked for, all below p
-part-line : (n p : ℕ) (line : List ℕ) → first (partCauses n p line) ≡ 0 → (length (numbers line) ≡ n) × (allBelow p (numbers line) ≡ true)
+part-line : (n p : ℕ) (line : List ℕ) → first (lineCauses n p line) ≡ 0 → (length (numbers line) ≡ n) × (allBelow p (numbers line) ≡ true)
 unfolding numbers
 part-line n p line e =
     let a = passed 13 (not (asks n line)) (first ((5, not (allBelow p (numbers line))) ∷ [])) (omega arith) e in
@@ -90,7 +89,7 @@ module _ (P : Plan) where
       }
 
   module _ {k l b : ℕ} {w T d : List ℕ} (parts : Parts P k l b w T d) (line : List ℕ) where
-    more-weights : first (partCauses (P .n + k) (P .p) line) ≡ 0 → Parts P (suc k) l b (w ++ numbers line) T d
+    more-weights : first (lineCauses (P .n + k) (P .p) line) ≡ 0 → Parts P (suc k) l b (w ++ numbers line) T d
     more-weights e =
         let h = part-line (P .n + k) (P .p) line e in
         record {
@@ -103,7 +102,7 @@ module _ (P : Plan) where
           products-below = parts .products-below;
         }
 
-    more-tables : first (partCauses (P .p) (P .p) line) ≡ 0 → Parts P k (suc l) b w (T ++ numbers line) d
+    more-tables : first (lineCauses (P .p) (P .p) line) ≡ 0 → Parts P k (suc l) b w (T ++ numbers line) d
     more-tables e =
         let h = part-line (P .p) (P .p) line e in
         record {
@@ -116,7 +115,7 @@ module _ (P : Plan) where
           products-below = parts .products-below;
         }
 
-    more-products : first (partCauses (variables P) (P .p) line) ≡ 0 → Parts P k l (suc b) w T (d ++ numbers line)
+    more-products : first (lineCauses (variables P) (P .p) line) ≡ 0 → Parts P k l (suc b) w T (d ++ numbers line)
     more-products e =
         let h = part-line (variables P) (P .p) line e in
         record {
@@ -156,13 +155,13 @@ sound-judged header line after s e =
     let h = passed 13 (not (asks 5 line)) (first (headerCauses P)) (omega arith) (u .0) in
     subst Sound (u .1) (sound-links P 0 [] [] (omega arith) (no-parts P (planned-of P (h .1))))
 sound-judged (weights P k w T) line after s e =
-    let u = unless-next (first (partCauses (P .n + k) (P .p) line)) (table P k (w ++ numbers line) T) after e in
+    let u = unless-next (first (lineCauses (P .n + k) (P .p) line)) (table P k (w ++ numbers line) T) after e in
     subst Sound (u .1) (s .0, more-weights P (s .1) line (u .0))
 sound-judged (table P k w T) line after s e =
-    let u = unless-next (first (partCauses (P .p) (P .p) line)) (afterLinks P (suc k) w (T ++ numbers line)) after e in
+    let u = unless-next (first (lineCauses (P .p) (P .p) line)) (afterLinks P (suc k) w (T ++ numbers line)) after e in
     subst Sound (u .1) (sound-links P (suc k) w (T ++ numbers line) (omega (arith, s .0)) (more-tables P (s .1) line (u .0)))
 sound-judged (product P b w T d) line after s e =
-    let u = unless-next (first (partCauses (variables P) (P .p) line)) (afterProducts P (suc b) w T (d ++ numbers line)) after e in
+    let u = unless-next (first (lineCauses (variables P) (P .p) line)) (afterProducts P (suc b) w T (d ++ numbers line)) after e in
     subst Sound (u .1) (sound-products P (suc b) w T (d ++ numbers line) (omega (arith, s .0)) (more-products P (s .1) line (u .0)))
 sound-judged (entryNames P w T d) line after s e =
     let u = unless-next (first ((13, not (same line pairNames)) ∷ [])) (entries P w T d _) after e in
@@ -170,7 +169,7 @@ sound-judged (entryNames P w T d) line after s e =
 sound-judged (entries P w T d S) line after s e =
     let i = at (numbers line) 0 in
     let v = at (numbers line) 1 in
-    let u = unless-next (first ((13, not (asks 2 line)) ∷ fileCauses (P .p) (P .s) (P .n) (P .m) (P .t) w T d S i v)) (entries P w T d (filed P w T d S i v)) after e in
+    let u = unless-next (first (entryCauses P w T d S line)) (entries P w T d (entered P w T d S line)) after e in
     let h = passed 13 (not (asks 2 line)) (first (fileCauses (P .p) (P .s) (P .n) (P .m) (P .t) w T d S i v)) (omega arith) (u .0) in
     let within : Within P = s .0 .planned .0 in
     subst Sound (u .1)

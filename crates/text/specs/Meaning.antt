@@ -2,23 +2,29 @@
 -- "Names line, values line; per link a line of weights, then a line with its table; a d line per product; names line `entry value`, then
 -- entries to the end." A text is a fold over its lines with a place: what the next line is to be, with what has been read so far.
 --     Place               where a line stands
---     judged place line   the next place, or the cause of a refusal: one clause for each kind of line
+--     Judged              the judgement of a line: the next place, or the cause of a refusal
+--     planNames, pairNames     the two names lines
+--     afterProducts P b .., afterLinks P k ..      the place after b of the products, and after k of the links
+--     unless k place      that place, or cause k where k is not 0
+--     headerCauses P, headerPlan ns      the values line: its causes but 13, and the plan that its five numbers ask for
+--     entryCauses .. line, entered .. line     an entry line: its causes, and the store after it
+--     judged place line   the judgement of a line: one clause for each kind of line
 --     ended place j       what is printed when the text ends before line j: the listing after entries, else 13 for the missing line j
+--     from j place pieces      what is printed of the lines from line j on
 --     meaning text        the bytes printed
 --     printed text out, printedLength text out     a lent slice with the output at its front, and the output's length
 use mathlib.Core.Bool.{Bool, cond, not}
 use mathlib.Core.List.{List, [], _∷_, _++_}
-use Prim.Native.Nat.{ℕ, zero, suc, _+_, _*_}
+use Prim.Native.Nat.{ℕ, zero, suc, _+_}
 use lib.Dec.{ltb}
-use lib.ListN.{length, replicate}
+use lib.ListN.{length}
 use Rattle.lists.specs.Places.{at, placed}
-use Rattle.field.specs.Rows.{allBelow}
 use Rattle.plan.specs.declared.numbers.Plan.{Plan}
 use Rattle.plan.specs.Causes.{first}
 use Rattle.plan.specs.Numbers.{variables, columns, numberCauses, plan}
-use Rattle.store.specs.Calls.{fileCauses, filed, coefficients}
+use Rattle.store.specs.Calls.{emptyStore, fileCauses, filed, coefficients}
 use Rattle.listing.specs.Printed.{listing, refused}
-use Rattle.text.specs.Lines.{cutAt, asks, numbers, same}
+use Rattle.text.specs.Lines.{cutAt, asks, numbers, lineCauses, same}
 
 pub data Place : Type 0 where
   names : Place
@@ -59,6 +65,14 @@ headerCauses P = numberCauses (P .p) (P .s) (P .n) (P .m) (P .t) ++ ((14, ltb 25
 abbrev pub headerPlan : List ℕ → Plan
 headerPlan ns = plan (at ns 0) (at ns 1) (at ns 2) (at ns 3) (at ns 4)
 
+-- an entry line: 13, then the causes of filing it; and the store with the entry filed
+abbrev pub entryCauses : Plan → List ℕ → List ℕ → List ℕ → List ℕ → List ℕ → List (ℕ × Bool)
+entryCauses P w T d S bytes =
+    (13, not (asks 2 bytes)) ∷ fileCauses (P .p) (P .s) (P .n) (P .m) (P .t) w T d S (at (numbers bytes) 0) (at (numbers bytes) 1)
+
+abbrev pub entered : Plan → List ℕ → List ℕ → List ℕ → List ℕ → List ℕ → List ℕ
+entered P w T d S bytes = filed P w T d S (at (numbers bytes) 0) (at (numbers bytes) 1)
+
 -- 13 first for its line, then the place's own causes
 unfoldable pub judged : Place → List ℕ → Judged
 judged names bytes = unless (first ((13, not (same bytes planNames)) ∷ [])) header
@@ -66,17 +80,14 @@ judged header bytes =
     let P = headerPlan (numbers bytes) in
     unless (first ((13, not (asks 5 bytes)) ∷ headerCauses P)) (afterLinks P 0 [] [])
 judged (weights P k w T) bytes =
-    unless (first ((13, not (asks (P .n + k) bytes)) ∷ (5, not (allBelow (P .p) (numbers bytes))) ∷ [])) (table P k (w ++ numbers bytes) T)
+    unless (first (lineCauses (P .n + k) (P .p) bytes)) (table P k (w ++ numbers bytes) T)
 judged (table P k w T) bytes =
-    unless (first ((13, not (asks (P .p) bytes)) ∷ (5, not (allBelow (P .p) (numbers bytes))) ∷ [])) (afterLinks P (suc k) w (T ++ numbers bytes))
+    unless (first (lineCauses (P .p) (P .p) bytes)) (afterLinks P (suc k) w (T ++ numbers bytes))
 judged (product P b w T d) bytes =
-    unless (first ((13, not (asks (variables P) bytes)) ∷ (5, not (allBelow (P .p) (numbers bytes))) ∷ [])) (afterProducts P (suc b) w T (d ++ numbers bytes))
+    unless (first (lineCauses (variables P) (P .p) bytes)) (afterProducts P (suc b) w T (d ++ numbers bytes))
 judged (entryNames P w T d) bytes =
-    unless (first ((13, not (same bytes pairNames)) ∷ [])) (entries P w T d (replicate (columns P * (columns P + 1)) 0))
-judged (entries P w T d S) bytes =
-    let i = at (numbers bytes) 0 in
-    let v = at (numbers bytes) 1 in
-    unless (first ((13, not (asks 2 bytes)) ∷ fileCauses (P .p) (P .s) (P .n) (P .m) (P .t) w T d S i v)) (entries P w T d (filed P w T d S i v))
+    unless (first ((13, not (same bytes pairNames)) ∷ [])) (entries P w T d (emptyStore P))
+judged (entries P w T d S) bytes = unless (first (entryCauses P w T d S bytes)) (entries P w T d (entered P w T d S bytes))
 
 unfoldable pub ended : Place → ℕ → List ℕ
 ended names j = refused 13 j

@@ -1,20 +1,17 @@
--- What the code has read so far, as a place of the definition. The code keeps the stage of the text by value, with how much of each lent
--- buffer is filled; the buffers stand beside it.
+-- Serves 01, "The filing program": what the code has read so far, as a place of the definition. The contracts of the functions that read a
+-- text cite it. The code keeps the stage of the text by value, with how much of each lent buffer is filled; the buffers stand beside it.
 --     judgedOf stage w T d S      the place, or the cause at which it stopped, over the buffers' bytes
+--     Planned P                   a plan within its limits, with C at most 255
 --     Fits stage                  the stage is within its buffers: what is filled leaves room for the lines to come
---     entryCauses, entered        an entry line: its causes, and the store behind it
+--     rejudged o line             the judgement of a line after the judgement o of those before it
+--     stated j held o             the definition's state after the judgement o: line j with the bytes held of it, or stopped there
 --     stateOf state line w T d S  the definition's state, over the bytes of the line and the buffers
 --     Room w T d S                the buffers are as large as the text may need
---     rejudged o line             the judgement of a line after the judgement o of those before it
-use mathlib.Core.Bool.{Bool, not}
-use mathlib.Core.List.{List, _∷_}
+use mathlib.Core.List.{List}
 use Prim.Native.Nat.{ℕ, _+_, _*_, _≤_, _<_}
 use lib.ListN.{length, take}
 use Rattle.plan.specs.declared.numbers.Plan.{Plan}
 use Rattle.plan.specs.Numbers.{columns, Within}
-use Rattle.lists.specs.Places.{at}
-use Rattle.store.specs.Calls.{fileCauses, filed}
-use Rattle.text.specs.Lines.{asks, numbers}
 use Rattle.text.specs.Meaning.{names, header, weights, table, product, entryNames, entries, Judged, next, cause, judged}
 use Rattle.text.specs.Streaming as streaming
 use Rattle.text.specs.declared.turns.State.{State}
@@ -44,13 +41,6 @@ Fits (Product P j a b c) = Planned P × (j < P .t) × (a ≤ 4096) × (b ≤ 163
 Fits (EntryNames P a b c) = Planned P × (a ≤ 4096) × (b ≤ 16384) × (c ≤ 2048)
 Fits (Entries P a b c) = Planned P × (a ≤ 4096) × (b ≤ 16384) × (c ≤ 2048)
 Fits (Stopped k) = Unit {0}
-
-abbrev pub entryCauses : Plan → List ℕ → List ℕ → List ℕ → List ℕ → List ℕ → List (ℕ × Bool)
-entryCauses P w T d S line =
-    (13, not (asks 2 line)) ∷ fileCauses (P .p) (P .s) (P .n) (P .m) (P .t) w T d S (at (numbers line) 0) (at (numbers line) 1)
-
-abbrev pub entered : Plan → List ℕ → List ℕ → List ℕ → List ℕ → List ℕ → List ℕ
-entered P w T d S line = filed P w T d S (at (numbers line) 0) (at (numbers line) 1)
 
 abbrev pub rejudged : Judged → List ℕ → Judged
 rejudged (next place) line = judged place line

@@ -73,7 +73,7 @@ fn print_filed(
     ensures { λ _. ⌜ now (out .exit) ≡ placed (now (out .entry)) 0 (listing plan (now (weights .entry)) (now (d .entry)) (coefficients (columns plan) (now (store .entry)))) ⌝ }
     ensures { λ r. ⌜ r ≡ length (listing plan (now (weights .entry)) (now (d .entry)) (coefficients (columns plan) (now (store .entry)))) ⌝ }
 {
-    let mut beta = [0u8; 1024];
+    let mut beta = [0u8; Plan::COLUMNS];
     let c = plan.columns();
     store::read_off(store, c, &mut beta[..c]);
     print_program(plan, weights, d, &beta[..c], steps, out)

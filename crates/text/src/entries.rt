@@ -7,7 +7,7 @@ ghost use Rattle.plan.specs.Numbers.{columns};
 ghost use Rattle.text.specs.Meaning as meaning;
 ghost use Rattle.plan.specs.Causes.{first, result};
 ghost use Rattle.store.specs.Calls.{numberOf};
-ghost use Rattle.text.specs.Progress.{judgedOf, Planned, Fits, entryCauses, entered};
+ghost use Rattle.text.specs.Progress.{judgedOf, Planned, Fits};
 use crate::reading::asks;
 use crate::reading::read_numbers;
 use crate::reading::same;
@@ -70,8 +70,8 @@ fn entry_line(
     d: &[u8],
     store: &mut [u8],
 ) -> u8
-    ensures { λ r. ⌜ r ≡ first (entryCauses plan (now (weights .entry)) (now (tables .entry)) (now (d .entry)) (now (store .entry)) (now (line .entry))) ⌝ }
-    ensures { λ r. ⌜ now (store .exit) ≡ result r (entered plan (now (weights .entry)) (now (tables .entry)) (now (d .entry)) (now (store .entry)) (now (line .entry))) (now (store .entry)) ⌝ }
+    ensures { λ r. ⌜ r ≡ first (meaning.entryCauses plan (now (weights .entry)) (now (tables .entry)) (now (d .entry)) (now (store .entry)) (now (line .entry))) ⌝ }
+    ensures { λ r. ⌜ now (store .exit) ≡ result r (meaning.entered plan (now (weights .entry)) (now (tables .entry)) (now (d .entry)) (now (store .entry)) (now (line .entry))) (now (store .entry)) ⌝ }
 {
     if !asks(line, 2) {
         return 13;

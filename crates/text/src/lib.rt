@@ -1,4 +1,8 @@
-// The filing program's text: from the bytes of standard input to the bytes of standard output.
+// The filing program's text: lines, numbers and the cursor, what each line of a text means, and what is printed at its end.
+//
+// A host or a program calls `print_text`, which takes any bytes and any slice to print into. A program that reads its text in chunks
+// calls `start`, then `feed` on each chunk and `finish` at the end, with buffers that it lends: `filing` does. Stands on `plan`, `store`,
+// `program` and `listing`. Renders 01, "The filing program", and causes 13 and 14 with the order of refusals in a text.
 mod cursor;
 mod ending;
 mod entries;
@@ -7,17 +11,8 @@ mod reading;
 mod stages;
 mod turns;
 
-pub use cursor::read;
 pub use ending::finish;
 pub use ending::print_text;
 pub use ending::start;
-pub use numerals::Numeral;
-pub use numerals::number_at;
-pub use reading::asks;
-pub use reading::read_numbers;
-pub use reading::read_part;
-pub use reading::same;
-pub use stages::Stage;
 pub use turns::State;
 pub use turns::feed;
-pub use turns::push;

@@ -7,7 +7,6 @@ ghost use Rattle.lists.specs.Places.{placed};
 ghost use Rattle.plan.specs.Causes.{first, result};
 ghost use Rattle.text.specs.Lines as lines;
 ghost use Rattle.text.specs.Meaning as meaning;
-ghost use Rattle.text.specs.Words as words;
 ghost use Rattle.text.specs.Progress.{judgedOf, Planned, Fits};
 use crate::reading::asks;
 use crate::reading::read_numbers;
@@ -89,7 +88,7 @@ pub fn header_line(line: &[u8]) -> Stage
 // A line of `count` residues into a buffer, from place `from` on: 13, 5, or 0. A refusal leaves the buffer as it was.
 fn part_line(line: &[u8], p: u8, from: usize, count: usize, buffer: &mut [u8]) -> u8
     requires { ⌜ from + count ≤ length (now buffer) ⌝ }
-    ensures { λ r. ⌜ r ≡ first (words.partCauses count p (now (line .entry))) ⌝ }
+    ensures { λ r. ⌜ r ≡ first (lines.lineCauses count p (now (line .entry))) ⌝ }
     ensures { λ r. ⌜ now (buffer .exit) ≡ result r (placed (now (buffer .entry)) from (lines.numbers (now (line .entry)))) (now (buffer .entry)) ⌝ }
 {
     let end = from + count;

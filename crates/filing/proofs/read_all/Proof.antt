@@ -1,10 +1,10 @@
 -- `filing::read_all` meets its contract: each chunk is fed as it is read. The measure is the number of turns that are left. Assumes nothing.
-use mathlib.Core.Path.{_≡_, refl, sym, _∙_}
 use native.Mathlib.Omega.{arith}
 use mathlib.Core.List.{List}
 use Prim.Native.Nat.{ℕ, _≤_}
 use lib.ListN.{length, take}
-use Rattle.filing.proofs.Chunks.{Reading, reading-start, reading-room, reading-part, reading-next}
+use Rattle.text.proofs.Turning.{room-kept}
+use Rattle.filing.proofs.Chunks.{Reading, reading-start, reading-part, reading-next}
 use Rattle.filing.proofs.read_all.Statement.{statement}
 use Rattle.filing.proofs.read_all.Tie as tie
 
@@ -54,7 +54,7 @@ feed-requires c κs =
     let loop = c .before .before .before .before .before .before .before .before .before .before .before .before .before .loop in
     let pre = c .before .before .before .before .before .before .before .before .before .before .before .before .before .before .before .before .before .before .before .before .before .pre in
     let r = c .before .before .before .before .before .before in
-    (loop .inv .fits, ((loop .inv .held, omega (arith, loop .inv .line-same, pre .0 .1), omega (arith, loop .inv .number, small r)), reading-room (loop .inv) (pre .1)))
+    (loop .inv .fits, ((loop .inv .held, omega (arith, loop .inv .line-same, pre .0 .1), omega (arith, loop .inv .number, small r)), room-kept (pre .1) (loop .inv .kept)))
 
 loop-less : tie.Need-loop-less Inv-loop μ-loop
 loop-less c = omega arith
@@ -65,7 +65,7 @@ loop-again c =
     let feed = c .before .before .before .before .before .before .before .before .before .before .before .feed in
     let read = c .before .before .before .before .before .before .before .before .before .before .before .before .before .before .before .before .before .before .before .before .before .before .read in
     let r = c .before .before .before .before .before .before .before .before .before .before .before .before .before .before .before .before .before .before in
-    reading-next (loop .inv) _ (part r) _ _ _ _ _ _ _ (omega arith) (small r) (feed .ensures .0) (feed .ensures .1) (read .kept .1 .0) (feed .kept .1 .1 .0) (feed .kept .1 .1 .1 .0) (feed .kept .1 .1 .1 .1 .0) (feed .kept .1 .1 .1 .1 .1 .0) (feed .kept .1 .1 .1 .1 .1 .1 .0)
+    reading-next (loop .inv) _ (part r) _ _ _ _ _ _ _ (omega arith) (small r) (feed .ensures .0) (feed .ensures .1) (read .kept .1 .0) (feed .kept .1 .1 .0) (feed .kept .1 .1 .1)
 
 sub-turns : tie.Need-sub-turns Inv-loop μ-loop
 sub-turns c = omega arith
@@ -79,7 +79,7 @@ loop-again-2 c =
     let feed = c .before .before .before .before .before .before .before .before .before .before .before .feed in
     let read = c .before .before .before .before .before .before .before .before .before .before .before .before .before .before .before .before .before .before .before .before .before .before .read in
     let r = c .before .before .before .before .before .before .before .before .before .before .before .before .before .before .before .before .before .before in
-    reading-next (loop .inv) _ (part r) _ _ _ _ _ _ _ (omega arith) (small r) (feed .ensures .0) (feed .ensures .1) (read .kept .1 .0) (feed .kept .1 .1 .0) (feed .kept .1 .1 .1 .0) (feed .kept .1 .1 .1 .1 .0) (feed .kept .1 .1 .1 .1 .1 .0) (feed .kept .1 .1 .1 .1 .1 .1 .0)
+    reading-next (loop .inv) _ (part r) _ _ _ _ _ _ _ (omega arith) (small r) (feed .ensures .0) (feed .ensures .1) (read .kept .1 .0) (feed .kept .1 .1 .0) (feed .kept .1 .1 .1)
 
 same-length : tie.Need-same-length Inv-loop μ-loop
 same-length c = c .before .loop .inv .chunk-same
@@ -88,16 +88,16 @@ same-length-2 : tie.Need-same-length-2 Inv-loop μ-loop
 same-length-2 c = c .before .loop .inv .line-same
 
 same-length-3 : tie.Need-same-length-3 Inv-loop μ-loop
-same-length-3 c = c .before .loop .inv .weights-same
+same-length-3 c = c .before .loop .inv .kept .0
 
 same-length-4 : tie.Need-same-length-4 Inv-loop μ-loop
-same-length-4 c = c .before .loop .inv .tables-same
+same-length-4 c = c .before .loop .inv .kept .1 .0
 
 same-length-5 : tie.Need-same-length-5 Inv-loop μ-loop
-same-length-5 c = c .before .loop .inv .products-same
+same-length-5 c = c .before .loop .inv .kept .1 .1 .0
 
 same-length-6 : tie.Need-same-length-6 Inv-loop μ-loop
-same-length-6 c = c .before .loop .inv .store-same
+same-length-6 c = c .before .loop .inv .kept .1 .1 .1 .0
 
 returns : tie.Need-returns Inv-loop μ-loop
 returns c = ((c .before .loop .inv .fits, c .before .loop .inv .held), c .before .loop .inv .sound)

@@ -1,6 +1,6 @@
 -- `filing::run` meets its contract. Assumes nothing.
 use native.Mathlib.Omega.{arith}
-use Rattle.text.proofs.Finishing.{room-kept}
+use Rattle.text.proofs.Turning.{room-kept}
 use borrow.Author.Needs.{needs}
 use Rattle.filing.proofs.run.Statement.{statement}
 use Rattle.filing.proofs.run.Tie as tie
@@ -18,7 +18,7 @@ print-end-requires : tie.Need-print-end-requires
 print-end-requires c κs =
     let read-all = c .before .before .before .before .before .before .before .before .before .before .before .before .before .before .before .before .before .before .before .before .before .read-all in
     let pre = c .before .before .before .before .before .before .before .before .before .before .before .before .before .before .before .before .before .before .before .before .before .before .before .before .before .before .before .before .before .before .before .before .before .before .before .before .pre in
-    (read-all .ensures .0, (read-all .ensures .1, (omega (arith, pre .0 .1, read-all .kept .1 .0), (room-kept (pre .1 .0) (read-all .kept .1 .1 .0) (read-all .kept .1 .1 .1 .0) (read-all .kept .1 .1 .1 .1 .0) (read-all .kept .1 .1 .1 .1 .1 .0), pre .1 .1))))
+    (read-all .ensures .0, (read-all .ensures .1, (omega (arith, pre .0 .1, read-all .kept .1 .0), (room-kept (pre .1 .0) (read-all .kept .1 .1), pre .1 .1))))
 
 same-length : tie.Need-same-length
 same-length c = search needs
