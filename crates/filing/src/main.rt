@@ -96,13 +96,13 @@ fn run(
 
 fn main() {
     let mut chunk = io::large_buffer();
-    let mut line = [0u8; 1024];
-    let mut weights = [0u8; 4096];
-    let mut tables = [0u8; 16384];
-    let mut d = [0u8; 2048];
-    let mut store = [0u8; 65536];
-    let mut steps = [0u16; 20000];
-    let mut out = [0u8; 131072];
+    let mut line = text::line_buffer();
+    let mut weights = text::weights_buffer();
+    let mut tables = text::tables_buffer();
+    let mut d = text::products_buffer();
+    let mut store = text::store_buffer();
+    let mut steps = text::steps_buffer();
+    let mut out = text::output_buffer();
     run(
         &mut chunk,
         &mut line,

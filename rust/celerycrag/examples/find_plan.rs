@@ -18,29 +18,22 @@
 //!     echo 0 1 1 0 | cargo run --release --example find_plan -- 3 2 2 0 1 1
 
 use celerycrag::{Plan, Shape, Store};
+use reference::random::SplitMix;
 use std::io::Read;
 use std::process::exit;
 
 /// The most columns of a plan text.
 const COLUMNS: usize = 255;
 
-/// The splitmix64 generator.
-struct Random(u64);
+/// Draws from a generator.
+struct Random(SplitMix);
 
 impl Random {
-    fn next(&mut self) -> u64 {
-        self.0 = self.0.wrapping_add(0x9e37_79b9_7f4a_7c15);
-        let mut z = self.0;
-        z = (z ^ (z >> 30)).wrapping_mul(0xbf58_476d_1ce4_e5b9);
-        z = (z ^ (z >> 27)).wrapping_mul(0x94d0_49bb_1331_11eb);
-        z ^ (z >> 31)
-    }
-
     /// A residue modulo p, each as likely as any other.
     fn residue(&mut self, p: usize) -> u8 {
         let p = p as u64;
         loop {
-            let x = self.next();
+            let x = self.0.bits();
             if x < u64::MAX - u64::MAX % p {
                 return (x % p) as u8;
             }
@@ -169,7 +162,7 @@ fn main() {
     check(shape, &values);
 
     eprintln!("seed {seed}");
-    let mut random = Random(seed as u64);
+    let mut random = Random(SplitMix(seed as u64));
     for draws in 1u64.. {
         let plan = draw(&mut random, shape);
         if files(&plan, &values) {

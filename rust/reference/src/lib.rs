@@ -30,6 +30,7 @@ mod field;
 mod norm;
 mod plan;
 mod program;
+pub mod random;
 mod row;
 mod store;
 mod text;

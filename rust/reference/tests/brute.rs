@@ -112,7 +112,7 @@ fn random_plans_and_lists() {
         (2, 3, 2, 0),
         (3, 1, 4, 0),
     ];
-    let mut random = Random(1);
+    let mut random = Random::new(1);
     for (s, n, m, t) in shapes {
         for _ in 0..25 {
             let plan = Owned::random(&mut random, 3, s, n, m, t);
@@ -156,7 +156,7 @@ fn every_table_of_two_bits_under_every_d() {
 #[test]
 fn larger_random_plans_reproduce_what_they_keep() {
     // Too large for every β; the run still has to give back what was kept.
-    let mut random = Random(2);
+    let mut random = Random::new(2);
     for (p, s, n, m, t) in [
         (5, 4, 2, 3, 2),
         (7, 7, 2, 4, 1),
@@ -199,7 +199,7 @@ fn new_filings(plan: &Owned) -> u64 {
 #[test]
 fn columns_are_never_independent_with_two_products() {
     // At most (t+1)L - t(t-1)/2 filings are New, where t is at most L.
-    let mut random = Random(3);
+    let mut random = Random::new(3);
     for (n, m, t) in [(5, 1, 2), (5, 1, 3), (5, 0, 4)] {
         let most = (t + 1) * (n + m) - t * (t - 1) / 2;
         for _ in 0..10 {
@@ -218,7 +218,7 @@ fn columns_are_never_independent_with_two_products() {
 
 #[test]
 fn the_largest_plan_files() {
-    let mut random = Random(4);
+    let mut random = Random::new(4);
     let plan = Owned::random(&mut random, 251, 2, 12, 52, 15);
     assert_eq!(plan.columns(), 1_024);
     let mut store = plan.empty_store();

@@ -1,24 +1,12 @@
 //! The plans that are timed, each with a whole table that files under it.
 
 use celerycrag::{Plan, Shape};
+use reference::random::SplitMix;
 
-/// The splitmix64 generator.
-struct Random(u64);
-
-impl Random {
-    fn next(&mut self) -> u64 {
-        self.0 = self.0.wrapping_add(0x9e37_79b9_7f4a_7c15);
-        let mut z = self.0;
-        z = (z ^ (z >> 30)).wrapping_mul(0xbf58_476d_1ce4_e5b9);
-        z = (z ^ (z >> 27)).wrapping_mul(0x94d0_49bb_1331_11eb);
-        z ^ (z >> 31)
-    }
-
-    fn bytes(&mut self, count: usize, below: usize) -> Vec<u8> {
-        (0..count)
-            .map(|_| (self.next() % below as u64) as u8)
-            .collect()
-    }
+fn bytes(random: &mut SplitMix, count: usize, below: usize) -> Vec<u8> {
+    (0..count)
+        .map(|_| (random.bits() % below as u64) as u8)
+        .collect()
 }
 
 /// A plan with the values of its entries, all of which can be kept.
@@ -31,11 +19,11 @@ impl Case {
     /// A random plan of radix 2. The table is that of the first link, whose
     /// values are bits: some β reproduces it, whatever the rest of the plan.
     fn new(p: usize, n: usize, m: usize, t: usize) -> Case {
-        let mut random = Random((p * n) as u64);
-        let weights = random.bytes((0..m).map(|k| n + k).sum(), p);
-        let mut tables = random.bytes(m * p, p);
-        tables[..p].copy_from_slice(&random.bytes(p, 2));
-        let d = random.bytes(t * (n + m), p);
+        let random = &mut SplitMix((p * n) as u64);
+        let weights = bytes(random, (0..m).map(|k| n + k).sum(), p);
+        let mut tables = bytes(random, m * p, p);
+        tables[..p].copy_from_slice(&bytes(random, p, 2));
+        let d = bytes(random, t * (n + m), p);
         let shape = Shape { p, s: 2, n, m, t };
         let plan = Plan::new(shape, weights, tables, d).expect("a plan");
         let link = plan.columns() - m;

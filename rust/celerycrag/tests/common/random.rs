@@ -1,21 +1,21 @@
 //! A small source of random numbers, the seed, and the number of cases.
 
-/// The splitmix64 generator.
-pub struct Random(u64);
+use reference::random::SplitMix;
+
+/// Numbers for one case.
+pub struct Random(SplitMix);
 
 impl Random {
     /// The numbers of one case: the same seed and case give the same numbers.
     pub fn new(seed: u64, case: u64) -> Random {
-        let mut start = Random(seed);
-        Random(start.next() ^ case.wrapping_mul(0xd6e8_feb8_6659_fd93))
+        let mut start = SplitMix(seed);
+        Random(SplitMix(
+            start.bits() ^ case.wrapping_mul(0xd6e8_feb8_6659_fd93),
+        ))
     }
 
     pub fn next(&mut self) -> u64 {
-        self.0 = self.0.wrapping_add(0x9e37_79b9_7f4a_7c15);
-        let mut z = self.0;
-        z = (z ^ (z >> 30)).wrapping_mul(0xbf58_476d_1ce4_e5b9);
-        z = (z ^ (z >> 27)).wrapping_mul(0x94d0_49bb_1331_11eb);
-        z ^ (z >> 31)
+        self.0.bits()
     }
 
     /// A number below k; for tests the small bias does not matter.

@@ -2,6 +2,7 @@
 //! methods, and a small source of random numbers.
 #![allow(dead_code)]
 
+use reference::random::SplitMix;
 use reference::{Filed, Ran};
 
 /// A plan with parts of its own, checked or not.
@@ -160,16 +161,16 @@ impl Owned {
     }
 }
 
-/// The splitmix64 generator.
-pub struct Random(pub u64);
+/// Numbers from a generator.
+pub struct Random(SplitMix);
 
 impl Random {
+    pub fn new(seed: u64) -> Random {
+        Random(SplitMix(seed))
+    }
+
     pub fn next(&mut self) -> u64 {
-        self.0 = self.0.wrapping_add(0x9e37_79b9_7f4a_7c15);
-        let mut z = self.0;
-        z = (z ^ (z >> 30)).wrapping_mul(0xbf58_476d_1ce4_e5b9);
-        z = (z ^ (z >> 27)).wrapping_mul(0x94d0_49bb_1331_11eb);
-        z ^ (z >> 31)
+        self.0.bits()
     }
 
     /// A number below k; for tests the small bias does not matter.
