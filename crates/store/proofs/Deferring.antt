@@ -12,15 +12,15 @@
 -- Assumes nothing.
 use mathlib.Core.Path.{_≡_, refl, sym, ap, ap₂, _∙_}
 use mathlib.Core.Bool.{Bool, true, false, cond}
-use mathlib.Core.Logic.{⊎-elim}
+use mathlib.Core.Logic.{_⊎_, inl, inr, ⊎-elim}
 use mathlib.Core.List.{List, _++_}
 use Prim.Native.Nat.{ℕ, _+_, _-_, _*_, _/_, _%_, _≤_, _<_}
 use native.Mathlib.Nat.{div-mul-le-self, lt-div-mul-add, pos-of-ne-zero, mul-zero, mod-lt, le-of-lt, mul-le-mul, mul-le-mul-right}
 use native.Mathlib.Decide.{decLt, ℕ-discrete}
 use native.Mathlib.Omega.{arith}
 use lib.ListN.{length, take, drop, length-take}
-use lib.Dec.{eqb}
-use borrow.Author.Tests.{ne-eqb}
+use lib.Dec.{eqb, ltb}
+use borrow.Author.Tests.{ne-eqb, ltb-true}
 use Rattle.lists.specs.Places.{sum, tab, at}
 use Rattle.lists.proofs.Sums.{sum-zero, sum-next, sum-le}
 use Rattle.lists.proofs.Tabs.{tab-length, tab-at, tab-ext, is-tab}
@@ -213,6 +213,16 @@ module _ (p C : ℕ) (store e : List ℕ) where
     poured-length : length (plusTimes 1 acc short) ≡ C + 1
     poured-length = tab-length (length acc) (λ j. at acc j + 1 * at short j) ∙ w .wide
 
+    -- the two cases of making room
+    poured-cases : (rows r : ℕ) (acc′ short′ : List ℕ) → Poured acc short left rows acc′ short′ r
+        → ((0 < left) × (r ≡ left) × (acc′ ≡ acc) × (short′ ≡ short)) ⊎ ((r ≡ rows) × (acc′ ≡ plusTimes 1 acc short) × (short′ ≡ tab (length short) (λ _. 0)))
+    poured-cases rows r acc′ short′ h = by (ltb 0 left) refl (h .0) (h .1) (h .2)
+      where
+        by : (b : Bool) → ltb 0 left ≡ b → r ≡ cond b left rows → acc′ ≡ cond b acc (plusTimes 1 acc short) → short′ ≡ cond b short (tab (length short) (λ _. 0))
+            → ((0 < left) × (r ≡ left) × (acc′ ≡ acc) × (short′ ≡ short)) ⊎ ((r ≡ rows) × (acc′ ≡ plusTimes 1 acc short) × (short′ ≡ tab (length short) (λ _. 0)))
+        by true e x y z = inl (ltb-true 0 left e, x, y, z)
+        by false e x y z = inr (x, y, z)
+
     pub held-room : (rows : ℕ) (acc′ short′ : List ℕ) (r : ℕ) → 0 < rows → rows * (p * p) < 65536 → Poured acc short left rows acc′ short′ r
         → Held p C store e q begin r acc′ short′ × (0 < r)
     held-room rows acc′ short′ r some fits h = ⊎-elim
@@ -230,7 +240,7 @@ module _ (p C : ℕ) (store e : List ℕ) where
           },
           rw (a .0) some,
         ))
-        h
+        (poured-cases rows r acc′ short′ h)
 
     pub held-all : C ≤ q → (acc′ : List ℕ) → acc′ ≡ plusTimes 1 acc short → acc′ ≡ tab (C + 1) (deferred p (cells C store) (at e) C)
     held-all h acc′ k =

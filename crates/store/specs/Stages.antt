@@ -11,8 +11,7 @@
 use mathlib.Core.Path.{_≡_}
 use mathlib.Core.Bool.{cond}
 use mathlib.Core.List.{List}
-use mathlib.Core.Logic.{_⊎_}
-use Prim.Native.Nat.{ℕ, _+_, _-_, _*_, _%_, _≤_, _<_}
+use Prim.Native.Nat.{ℕ, _+_, _-_, _*_, _%_, _≤_}
 use lib.Dec.{eqb, ltb}
 use lib.ListN.{length}
 use Rattle.lists.specs.Places.{sum, tab}
@@ -38,8 +37,9 @@ factor p f d = cond (eqb d 0) 0 ((p - f) % p)
 
 abbrev pub Poured : List ℕ → List ℕ → ℕ → ℕ → List ℕ → List ℕ → ℕ → Type 0
 Poured acc short left rows acc′ short′ r =
-    ((0 < left) × (r ≡ left) × (acc′ ≡ acc) × (short′ ≡ short))
-    ⊎ ((r ≡ rows) × (acc′ ≡ plusTimes 1 acc short) × (short′ ≡ tab (length short) (λ _. 0)))
+    (r ≡ cond (ltb 0 left) left rows)
+    × (acc′ ≡ cond (ltb 0 left) acc (plusTimes 1 acc short))
+    × (short′ ≡ cond (ltb 0 left) short (tab (length short) (λ _. 0)))
 
 unfoldable pub cleared : ℕ → (ℕ → ℕ → ℕ) → (ℕ → ℕ) → ℕ → ℕ → ℕ → ℕ
 cleared p S N c r j = cond (ltb r c) ((S r j + (p - S r c) * N j) % p) (S r j)
