@@ -3,25 +3,19 @@ use mathlib.Core.Path.{_≡_, refl}
 use mathlib.Core.List.{List}
 use Prim.Native.Nat.{ℕ, zero, suc, _+_, _-_, _*_, _/_, _≤_}
 use native.Mathlib.Omega.{arith}
-use Rattle.plan.specs.Causes.{first}
+use Rattle.plan.specs.Causes.{first, answer}
 use Rattle.plan.specs.Numbers.{plan, Within}
-use Rattle.plan.proofs.Refusals.{within-of, none-met}
+use Rattle.plan.proofs.Refusals.{answer-gives, within-of, none-met}
 use Rattle.store.specs.declared.elimination.Filed.the-variants.{Implied}
-use Rattle.store.specs.Elimination.{Outcome}
-use Rattle.store.specs.Calls.{fileCauses, answered}
+use Rattle.store.specs.Calls.{fileCauses, answerOf}
 use Rattle.program.specs.Layout.{stepCount}
 use Rattle.program.specs.Calls.{writeCauses}
 use Rattle.program.proofs.Shape.{step-limit}
 use Rattle.celerycrag.specs.Numbers.{lengthOf}
 
-passed : (k : ℕ) (o : Outcome) → answered k o ≡ Implied → k ≡ 0
-unfolding answered
-passed zero o e = refl
-passed (suc k) o e = let z : _≡_ {A = ℕ} 0 1 = cc in absurd (omega arith)
-
-pub implied-within : (p s n m t : ℕ) (w T d store : List ℕ) (i v : ℕ) (o : Outcome) → answered (first (fileCauses p s n m t w T d store i v)) o ≡ Implied → Within (plan p s n m t)
+pub implied-within : (p s n m t : ℕ) (w T d store : List ℕ) (i v : ℕ) (vs : List ℕ) → answer (first (fileCauses p s n m t w T d store i v)) vs ≡ answerOf Implied → Within (plan p s n m t)
 unfolding fileCauses
-implied-within p s n m t w T d store i v o e = within-of p s n m t (none-met p s n m t w T d _ _ (passed _ o e) .0)
+implied-within p s n m t w T d store i v vs e = within-of p s n m t (none-met p s n m t w T d _ _ (answer-gives _ vs _ e .0) .0)
 
 pub writes-within : (p s n m t : ℕ) (w T d β steps : List ℕ) → first (writeCauses p s n m t w T d β steps) ≡ 0 → Within (plan p s n m t)
 unfolding writeCauses

@@ -7,7 +7,7 @@ ghost use mathlib.Core.Path.{_≡_};
 ghost use mathlib.Core.Bool.{true};
 ghost use mathlib.Core.List.{[]};
 ghost use Prim.Native.Nat.{_*_};
-ghost use Rattle.plan.specs.Causes.{first, result};
+ghost use Rattle.plan.specs.Causes.{first, result, numberOf};
 ghost use Rattle.plan.specs.Numbers.{plan, columns};
 ghost use Rattle.plan.specs.Parts.{callCauses};
 ghost use Rattle.plan.specs.Rows as rows;
@@ -89,7 +89,7 @@ pub extern "C" fn celery_file(
     value: usize,
     column: &mut usize,
 ) -> u8
-    ensures { λ r. ⌜ r ≡ stores.numberOf (stores.fileAnswer p s n m t (now (weights .entry)) (now (tables .entry)) (now (d .entry)) (now (store .entry)) entry value) ⌝ }
+    ensures { λ r. ⌜ r ≡ numberOf (stores.fileAnswer p s n m t (now (weights .entry)) (now (tables .entry)) (now (d .entry)) (now (store .entry)) entry value) ⌝ }
     ensures { λ r. ⌜ now (store .exit) ≡ stores.fileStore p s n m t (now (weights .entry)) (now (tables .entry)) (now (d .entry)) (now (store .entry)) entry value ⌝ }
     ensures { λ r. ⌜ now (column .exit) ≡ specs.columnOf (stores.fileAnswer p s n m t (now (weights .entry)) (now (tables .entry)) (now (d .entry)) (now (store .entry)) entry value) (columns (plan p s n m t)) (now (column .entry)) ⌝ }
 {
@@ -188,9 +188,9 @@ pub extern "C" fn celery_run(
     y: &mut u8,
     count: &mut usize,
 ) -> u8
-    ensures { λ r. ⌜ r ≡ programs.numberOf (programs.runAnswer p s n m t (now (weights .entry)) (now (tables .entry)) (now (d .entry)) (now (steps .entry)) (now (digits .entry))) ⌝ }
-    ensures { λ r. ⌜ now (y .exit) ≡ specs.outputOf (programs.runAnswer p s n m t (now (weights .entry)) (now (tables .entry)) (now (d .entry)) (now (steps .entry)) (now (digits .entry))) (now (y .entry)) ⌝ }
-    ensures { λ r. ⌜ now (count .exit) ≡ specs.countOf (programs.runAnswer p s n m t (now (weights .entry)) (now (tables .entry)) (now (d .entry)) (now (steps .entry)) (now (digits .entry))) (now (count .entry)) ⌝ }
+    ensures { λ r. ⌜ r ≡ numberOf (programs.runAnswer p s n m t (now (weights .entry)) (now (tables .entry)) (now (d .entry)) (now (steps .entry)) (now (digits .entry))) ⌝ }
+    ensures { λ r. ⌜ now (y .exit) ≡ specs.valueOf (programs.runAnswer p s n m t (now (weights .entry)) (now (tables .entry)) (now (d .entry)) (now (steps .entry)) (now (digits .entry))) 0 (now (y .entry)) ⌝ }
+    ensures { λ r. ⌜ now (count .exit) ≡ specs.valueOf (programs.runAnswer p s n m t (now (weights .entry)) (now (tables .entry)) (now (d .entry)) (now (steps .entry)) (now (digits .entry))) 1 (now (count .entry)) ⌝ }
 {
     let a = program::run(p, s, n, m, t, weights, tables, d, steps, digits);
     match a {
@@ -217,8 +217,8 @@ pub extern "C" fn celery_worst_norm(
     beta: &[u8],
     norm: &mut usize,
 ) -> u8
-    ensures { λ r. ⌜ r ≡ norms.numberOf (norms.normAnswer p s n m t (now (weights .entry)) (now (tables .entry)) (now (d .entry)) (now (beta .entry))) ⌝ }
-    ensures { λ r. ⌜ now (norm .exit) ≡ specs.normOf (norms.normAnswer p s n m t (now (weights .entry)) (now (tables .entry)) (now (d .entry)) (now (beta .entry))) (now (norm .entry)) ⌝ }
+    ensures { λ r. ⌜ r ≡ numberOf (norms.normAnswer p s n m t (now (weights .entry)) (now (tables .entry)) (now (d .entry)) (now (beta .entry))) ⌝ }
+    ensures { λ r. ⌜ now (norm .exit) ≡ specs.valueOf (norms.normAnswer p s n m t (now (weights .entry)) (now (tables .entry)) (now (d .entry)) (now (beta .entry))) 0 (now (norm .entry)) ⌝ }
 {
     let a = listing::worst_norm(p, s, n, m, t, weights, tables, d, beta);
     match a {

@@ -11,7 +11,7 @@ use Rattle.plan.specs.Parts.{lengthsFit, valuesFit, callCauses}
 use Rattle.plan.specs.Rows.{digit, link, chain, values, weighted, rowPlace, row}
 use Rattle.store.specs.declared.elimination.Filed.the-variants.{New, Implied, Refused}
 use Rattle.store.specs.Elimination.{isZeroRow, isPivot, isReduced, residual, lead, normal, put, outcome, after, flat}
-use Rattle.store.specs.Calls.{fileCauses, answered, filed, coefficients}
+use Rattle.store.specs.Calls.{fileCauses, answerOf, filed, coefficients}
 use Rattle.program.specs.Steps.{bootstraps, tableAt}
 use Rattle.program.specs.Layout.{adds, linkSteps, productSteps, layout, stepCount}
 use Rattle.demands.specs.Demand3.{Given, Filing, ours, call, refusal, answer, storeAfter, emptyStore, storeOf}
@@ -31,14 +31,14 @@ from G fs = storeOf G (emptyStore G) fs
 
 pub record Starred : Type 0 where
   -- "X, empty: (1,1) New 1; then (2,1) New 0; then (3,0) New 2; β = 0 1 1 0."
-  pub xor-1 : answer (call X (from X []) 1 1) ≡ New 1
-  pub xor-2 : answer (call X (from X (ours 1 1 ∷ [])) 2 1) ≡ New 0
-  pub xor-3 : answer (call X (from X (ours 1 1 ∷ ours 2 1 ∷ [])) 3 0) ≡ New 2
+  pub xor-1 : answer (call X (from X []) 1 1) ≡ answerOf (New 1)
+  pub xor-2 : answer (call X (from X (ours 1 1 ∷ [])) 2 1) ≡ answerOf (New 0)
+  pub xor-3 : answer (call X (from X (ours 1 1 ∷ ours 2 1 ∷ [])) 3 0) ≡ answerOf (New 2)
   pub xor-β : coefficients 4 (from X (ours 1 1 ∷ ours 2 1 ∷ ours 3 0 ∷ [])) ≡ 0 ∷ 1 ∷ 1 ∷ 0 ∷ []
   -- "Then (0,0) Implied; (0,1) gives 9; (3,1) gives 9."
-  pub xor-4 : answer (call X (from X (ours 1 1 ∷ ours 2 1 ∷ ours 3 0 ∷ [])) 0 0) ≡ Implied
-  pub xor-5 : answer (call X (from X (ours 1 1 ∷ ours 2 1 ∷ ours 3 0 ∷ [])) 0 1) ≡ Refused 9
-  pub xor-6 : answer (call X (from X (ours 1 1 ∷ ours 2 1 ∷ ours 3 0 ∷ [])) 3 1) ≡ Refused 9
+  pub xor-4 : answer (call X (from X (ours 1 1 ∷ ours 2 1 ∷ ours 3 0 ∷ [])) 0 0) ≡ answerOf Implied
+  pub xor-5 : answer (call X (from X (ours 1 1 ∷ ours 2 1 ∷ ours 3 0 ∷ [])) 0 1) ≡ answerOf (Refused 9)
+  pub xor-6 : answer (call X (from X (ours 1 1 ∷ ours 2 1 ∷ ours 3 0 ∷ [])) 3 1) ≡ answerOf (Refused 9)
   -- "X with 0,0,0,1 in entry order: β = 1 0 2 0."
   pub and-β : coefficients 4 (from X (ours 0 0 ∷ ours 1 0 ∷ ours 2 0 ∷ ours 3 1 ∷ [])) ≡ 1 ∷ 0 ∷ 2 ∷ 0 ∷ []
   -- "p=3, s=2, n=1, one link of weight 1 and table 1,0,0, t=0, values 1,0: β = 0 1, one bootstrap, 6 steps."
@@ -51,7 +51,7 @@ pub record Starred : Type 0 where
   pub five-product : (tableAt (F .numbers) (F .tables) 0 ((2 + 3) % 5) + tableAt (F .numbers) (F .tables) 1 ((2 + 4 * 3) % 5)) % 5 ≡ 1
 
 pub starred : Starred
-unfolding storeOf storeAfter answer refusal answered filed coefficients fileCauses callCauses badRadix outOfRange oddPrime isPrime every lengthsFit valuesFit isZeroRow isPivot isReduced residual lead normal put outcome after flat tab sum row rowPlace weighted values chain link digit inverse square minusSquare tableAt bootstraps layout stepCount joined linkSteps productSteps adds
+unfolding storeOf storeAfter answer refusal filed coefficients fileCauses callCauses badRadix outOfRange oddPrime isPrime every lengthsFit valuesFit isZeroRow isPivot isReduced residual lead normal put outcome after flat tab sum row rowPlace weighted values chain link digit inverse square minusSquare tableAt bootstraps layout stepCount joined linkSteps productSteps adds
 starred =
     record {
       xor-1 = refl;

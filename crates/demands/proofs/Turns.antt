@@ -20,15 +20,15 @@ use Rattle.lists.specs.Places.{at}
 use Rattle.lists.proofs.Parts.{zeros-at}
 use Rattle.field.specs.Primes.{oddPrime}
 use Rattle.plan.specs.declared.numbers.Plan.{Plan}
-use Rattle.plan.specs.Causes.{first, result}
+use Rattle.plan.specs.Causes as causes
+use Rattle.plan.specs.Causes.{first, result, refuses}
 use Rattle.plan.specs.Numbers.{columns, entries, Within}
 use Rattle.plan.specs.Parts.{Lent}
 use Rattle.plan.specs.Rows.{entryCause}
 use Rattle.plan.proofs.Refusals.{accepted-plan, accepted-parts, accepted-call, result-refused}
-use Rattle.store.specs.declared.elimination.Filed.the-variants.{Refused}
 use Rattle.store.specs.Elimination.{Satisfies, Solves, Reduced, Outcome, new, implied, contradiction, outcome, after, cells, flat}
 use Rattle.store.specs.Filings.{empty, isContradiction}
-use Rattle.store.specs.Calls.{equation, storeFits, storeCause, valueCause, conflictCause, fileCauses, answered, filed}
+use Rattle.store.specs.Calls.{equation, storeFits, storeCause, valueCause, conflictCause, fileCauses, valuesOf, answered, filed}
 use Rattle.store.proofs.Bytes.{flat-length, cells-flat}
 use Rattle.store.proofs.ReducedForm.{isReduced-means, reduced-ext}
 use Rattle.store.proofs.SamePlaces.{solves-ext}
@@ -56,18 +56,15 @@ pub record Holds (G : Given) (S : List ℕ) (K : List (ℕ × ℕ)) : Type 0 whe
   pub ranges : (i v : ℕ) → List·Memᴰ (i, v) K → (i < entries (G .numbers)) × (v < G .numbers .s)
 
 -- a call that is not kept was refused
-positive-refusal : (k : ℕ) (o : Outcome) → (k ≡ 0 → isContradiction o ≡ false) → isKept (answered k o) ≡ false → 0 < k
-unfolding answered
-positive-refusal zero (new c) h e = absurd (true≢false e)
-positive-refusal zero implied h e = absurd (true≢false e)
-positive-refusal zero contradiction h e = absurd (true≢false (h refl))
-positive-refusal (suc k) o h e = omega arith
+positive-refusal : (k : ℕ) (vs : List ℕ) → isKept (causes.answer k vs) ≡ false → 0 < k
+positive-refusal zero vs e = absurd (true≢false e)
+positive-refusal (suc k) vs e = omega arith
 
 pub unkept-same : (c : Call) → isKept (answer c) ≡ false → storeAfter c ≡ c .store
 unfolding refusal answer storeAfter fileCauses
 unkept-same c e =
     result-refused (refusal c) (filed P w T d (c .store) (c .entry) (c .value)) (c .store)
-    (positive-refusal (refusal c) (outcome (P .p) (columns P) (cells (columns P) (c .store)) (equation P w T d (c .entry) (c .value))) (no-conflict P w T d (c .store) (c .entry) (c .value)) e)
+    (positive-refusal (refusal c) (valuesOf (outcome (P .p) (columns P) (cells (columns P) (c .store)) (equation P w T d (c .entry) (c .value)))) e)
   where
     P : Plan
     P = c .lent .numbers
@@ -82,25 +79,20 @@ unkept-same c e =
     d = c .lent .products
 
 -- what is answered in range, by the outcome
-nine : (o : Outcome) → (answered (cond (isContradiction o) 9 0) o ≡ Refused 9) ↔ (o ≡ contradiction)
-unfolding answered
+nine : (o : Outcome) → (answered o ≡ refuses 9) ↔ (o ≡ contradiction)
 nine (new c) = ((λ e. let z : _≡_ {A = ℕ} 0 1 = cc in absurd (omega arith)), (λ e. let z : _≡_ {A = ℕ} 0 1 = cc in absurd (omega arith)))
 nine implied = ((λ e. let z : _≡_ {A = ℕ} 0 1 = cc in absurd (omega arith)), (λ e. let z : _≡_ {A = ℕ} 0 1 = cc in absurd (omega arith)))
 nine contradiction = ((λ e. refl), (λ e. refl))
 
-kept-unless : (o : Outcome) → (answered (cond (isContradiction o) 9 0) o ≡ Refused 9 → ⊥) → isKept (answered (cond (isContradiction o) 9 0) o) ≡ true
-unfolding answered
+kept-unless : (o : Outcome) → (answered o ≡ refuses 9 → ⊥) → isKept (answered o) ≡ true
 kept-unless (new c) h = refl
 kept-unless implied h = refl
 kept-unless contradiction h = absurd (h refl)
 
--- a kept answer: the refusal is 0, and there is no contradiction
-kept-passes : (k : ℕ) (o : Outcome) → isKept (answered k o) ≡ true → (k ≡ 0) × (o ≡ contradiction → ⊥)
-unfolding answered
-kept-passes zero (new c) e = (refl, λ h. let z : _≡_ {A = ℕ} 0 1 = cc in omega arith)
-kept-passes zero implied e = (refl, λ h. let z : _≡_ {A = ℕ} 0 1 = cc in omega arith)
-kept-passes zero contradiction e = absurd (false≢true e)
-kept-passes (suc k) o e = absurd (false≢true e)
+-- a kept answer: the refusal is 0
+kept-passes : (k : ℕ) (vs : List ℕ) → isKept (causes.answer k vs) ≡ true → k ≡ 0
+kept-passes zero vs e = refl
+kept-passes (suc k) vs e = absurd (false≢true e)
 
 -- a refusal by the entry or by the value is not 0
 early : (b c e : Bool) → first ((7, b) ∷ (8, c) ∷ (9, e) ∷ []) ≡ 0 → (b ≡ false) × (c ≡ false)
@@ -154,9 +146,9 @@ module _ (G : Given) (accepted : Accepted G) where
     in-range hi hv = refusal-is ∙ rw (lt-ltb i (entries (G .numbers)) hi, lt-ltb v (G .numbers .s) hv)
 
     -- the answer in range
-    answer-is : i < entries (G .numbers) → v < G .numbers .s → answer (call G S i v) ≡ answered (cond (isContradiction found) 9 0) found
+    answer-is : i < entries (G .numbers) → v < G .numbers .s → answer (call G S i v) ≡ answered found
     unfolding answer refusal found
-    answer-is hi hv = ap (λ (k : ℕ). answered k found) (in-range hi hv)
+    answer-is hi hv = ap (λ (k : ℕ). causes.answer k (valuesOf found)) (in-range hi hv)
 
     row : v < G .numbers .s → (j : ℕ) → j ≤ C G → eqOf G i v j < p G
     row hv = equation-row (G .numbers) (G .weights) (G .tables) (G .products) i v within lent (omega (arith, within .radix-high))
@@ -189,7 +181,9 @@ module _ (G : Given) (accepted : Accepted G) where
     module _ (kept : isKept (answer (call G S i v)) ≡ true) where
       passes : (refusal (call G S i v) ≡ 0) × (found ≡ contradiction → ⊥)
       unfolding answer refusal found
-      passes = kept-passes (refusal (call G S i v)) found kept
+      passes =
+          let none = kept-passes (refusal (call G S i v)) (valuesOf found) kept in
+          (none, λ e. true≢false (sym (ap isContradiction e) ∙ no-conflict (G .numbers) (G .weights) (G .tables) (G .products) S i v none))
 
       kept-range : (i < entries (G .numbers)) × (v < G .numbers .s)
       kept-range =

@@ -5,7 +5,7 @@
 use mathlib.Core.Path.{_≡_, sym, ap, ap₂, _∙_}
 use mathlib.Core.Bool.{Bool, true, false, cond, not}
 use mathlib.Core.List.{List, [], _∷_}
-use Prim.Native.Nat.{ℕ, zero, suc, _+_, _*_, _<_, max}
+use Prim.Native.Nat.{ℕ, _+_, _*_, max}
 use native.Mathlib.Nat.{pos-of-ne-zero}
 use native.Mathlib.Omega.{arith}
 use lib.Dec.{eqb}
@@ -14,12 +14,13 @@ use Rattle.lists.specs.Places.{largest}
 use Rattle.field.specs.Rows.{allBelow}
 use Rattle.plan.specs.declared.numbers.Plan.{Plan}
 use Rattle.plan.specs.declared.numbers.Checked.the-variants as checks
-use Rattle.plan.specs.Causes.{first}
+use Rattle.plan.specs.Causes.{first, gives}
+use Rattle.plan.specs.Numbers as numbers
 use Rattle.plan.specs.Numbers.{variables, columns, plan, checked}
 use Rattle.plan.specs.Parts.{linkStart, partCauses}
-use Rattle.plan.proofs.Refusals.{call-plan, call-numbers, call-parts, call-passed}
+use Rattle.plan.proofs.Refusals.{refused-answer, given-answer, call-plan, call-numbers, call-parts, call-passed}
 use Rattle.listing.specs.declared.norm.Normed.the-variants.{Norm, Refused}
-use Rattle.listing.specs.Norm.{squares, worst, normCauses, normed}
+use Rattle.listing.specs.Norm.{squares, worst, normCauses, answerOf, normAnswer}
 
 pub norm-of : (P : Plan) (w d β : List ℕ) {l links products last rest r : ℕ} → l ≡ variables P
     → links ≡ largest (λ k. squares w (linkStart P k) (P .n + k)) (P .m)
@@ -33,11 +34,6 @@ norm-of P w d β hl hlinks hproducts hlast hrest hr =
     (hproducts ∙ ap (λ (l : ℕ). largest (λ b. squares d (b * l) l) (P .t)) hl)
     (hlast ∙ ap (λ (l : ℕ). largest (λ b. squares β (b * l) l) (P .t + 1)) hl))
 
-refuses : (k f x : ℕ) → k ≡ f → 0 < k → Refused k ≡ normed f x
-unfolding normed
-refuses zero f x e pos = absurd (omega arith)
-refuses (suc k) f x e pos = ap (λ (j : ℕ). normed j x) e
-
 module _ (p s n m t : ℕ) (w T d β : List ℕ) where
   own : Plan → Bool
   own P = eqb (length β) (columns P)
@@ -45,17 +41,17 @@ module _ (p s n m t : ℕ) (w T d β : List ℕ) where
   rest : Plan → List (ℕ × Bool)
   rest P = (5, not (allBelow (P .p) β)) ∷ []
 
-  pub norm-numbers : (k : ℕ) → checked p s n m t ≡ checks.Refused k → Refused k ≡ normed (first (normCauses p s n m t w T d β)) (worst (plan p s n m t) w d β)
+  pub norm-numbers : (k : ℕ) → checked p s n m t ≡ numbers.answerOf (checks.Refused k) → answerOf (Refused k) ≡ normAnswer p s n m t w T d β
   unfolding normCauses own rest
   norm-numbers k e =
       let r = call-numbers p s n m t w T d own rest k e in
-      refuses k (first (normCauses p s n m t w T d β)) (worst (plan p s n m t) w d β) (r .0) (r .1)
+      refused-answer k (first (normCauses p s n m t w T d β)) (worst (plan p s n m t) w d β ∷ []) (r .0) (r .1)
 
-  module _ (Q : Plan) (e : checked p s n m t ≡ checks.Accepted Q) where
-    pub norm-parts : (k : ℕ) → k ≡ first (partCauses Q w T d (eqb (length β) (columns Q))) → (k ≡ 0 → ⊥) → Refused k ≡ normed (first (normCauses p s n m t w T d β)) (worst (plan p s n m t) w d β)
+  module _ (Q : Plan) (e : checked p s n m t ≡ numbers.answerOf (checks.Accepted Q)) where
+    pub norm-parts : (k : ℕ) → k ≡ first (partCauses Q w T d (eqb (length β) (columns Q))) → (k ≡ 0 → ⊥) → answerOf (Refused k) ≡ normAnswer p s n m t w T d β
     unfolding normCauses own rest
     norm-parts k h some =
-        refuses k (first (normCauses p s n m t w T d β)) (worst (plan p s n m t) w d β)
+        refused-answer k (first (normCauses p s n m t w T d β)) (worst (plan p s n m t) w d β ∷ [])
         (call-parts p s n m t w T d own rest Q e k h (pos-of-ne-zero some)) (pos-of-ne-zero some)
 
     module _ (passed : 0 ≡ first (partCauses Q w T d (eqb (length β) (columns Q)))) where
@@ -63,11 +59,10 @@ module _ (p s n m t : ℕ) (w T d β : List ℕ) where
       unfolding normCauses own rest
       left b h = call-passed p s n m t w T d own rest Q e passed ∙ ap (λ (x : Bool). cond (not x) 5 0) h
 
-      pub norm-values : allBelow (Q .p) β ≡ false → Refused 5 ≡ normed (first (normCauses p s n m t w T d β)) (worst (plan p s n m t) w d β)
-      norm-values h = refuses 5 (first (normCauses p s n m t w T d β)) (worst (plan p s n m t) w d β) (sym (left false h)) (omega arith)
+      pub norm-values : allBelow (Q .p) β ≡ false → answerOf (Refused 5) ≡ normAnswer p s n m t w T d β
+      norm-values h = refused-answer 5 (first (normCauses p s n m t w T d β)) (worst (plan p s n m t) w d β ∷ []) (sym (left false h)) (omega arith)
 
-      pub norm-answer : (r : ℕ) → allBelow (Q .p) β ≡ true → r ≡ worst Q w d β → Norm r ≡ normed (first (normCauses p s n m t w T d β)) (worst (plan p s n m t) w d β)
-      unfolding normed
+      pub norm-answer : (r : ℕ) → allBelow (Q .p) β ≡ true → r ≡ worst Q w d β → answerOf (Norm r) ≡ normAnswer p s n m t w T d β
       norm-answer r h hr =
-          ap Norm (hr ∙ ap (λ (P : Plan). worst P w d β) (sym (call-plan p s n m t e)))
-          ∙ ap (λ (k : ℕ). normed k (worst (plan p s n m t) w d β)) (sym (left true h))
+          ap (λ (x : ℕ). gives (x ∷ [])) (hr ∙ ap (λ (P : Plan). worst P w d β) (sym (call-plan p s n m t e)))
+          ∙ given-answer (first (normCauses p s n m t w T d β)) (worst (plan p s n m t) w d β ∷ []) (left true h)

@@ -3,18 +3,17 @@
 --     squares ws from n     the sum of the squares of n places of ws, from place `from` on
 --     worst P w d β         the worst norm
 --     normCauses            the causes of the call: 1 2 3 4 5
---     normed k x            its answer from its refusal k: `Norm` with the number, or `Refused` with 01's number
+--     answerOf a            01's number and values for each case of its answer: the norm, or the refusal's number
 --     normAnswer            what `worst_norm` answers
---     numberOf a            01's number for each case of that answer, 0 where there is a norm
 use mathlib.Core.Bool.{Bool, not}
 use mathlib.Core.List.{List, [], _∷_}
-use Prim.Native.Nat.{ℕ, zero, suc, _+_, _*_, max}
+use Prim.Native.Nat.{ℕ, _+_, _*_, max}
 use lib.Dec.{eqb}
 use lib.ListN.{length}
 use Rattle.lists.specs.Places.{sum, largest, at}
 use Rattle.field.specs.Rows.{allBelow}
 use Rattle.plan.specs.declared.numbers.Plan.{Plan}
-use Rattle.plan.specs.Causes.{first}
+use Rattle.plan.specs.Causes.{first, Answer, gives, refuses, answer}
 use Rattle.plan.specs.Numbers.{variables, columns, plan}
 use Rattle.plan.specs.Parts.{linkStart, callCauses}
 use Rattle.listing.specs.declared.norm.Normed.{Normed}
@@ -33,14 +32,10 @@ unfoldable pub normCauses : ℕ → ℕ → ℕ → ℕ → ℕ → List ℕ →
 normCauses p s n m t w T d β =
     callCauses p s n m t w T d (λ P. eqb (length β) (columns P)) (λ P. (5, not (allBelow (P .p) β)) ∷ [])
 
-unfoldable pub normed : ℕ → ℕ → Normed
-normed zero x = Norm x
-normed (suc k) x = Refused (suc k)
+abbrev pub answerOf : Normed → Answer
+answerOf (Norm x) = gives (x ∷ [])
+answerOf (Refused k) = refuses k
 
 -- the call as a whole
-abbrev pub normAnswer : ℕ → ℕ → ℕ → ℕ → ℕ → List ℕ → List ℕ → List ℕ → List ℕ → Normed
-normAnswer p s n m t w T d β = normed (first (normCauses p s n m t w T d β)) (worst (plan p s n m t) w d β)
-
-abbrev pub numberOf : Normed → ℕ
-numberOf (Norm x) = 0
-numberOf (Refused k) = k
+abbrev pub normAnswer : ℕ → ℕ → ℕ → ℕ → ℕ → List ℕ → List ℕ → List ℕ → List ℕ → Answer
+normAnswer p s n m t w T d β = answer (first (normCauses p s n m t w T d β)) (worst (plan p s n m t) w d β ∷ [])

@@ -105,7 +105,7 @@ pub fn worst_norm(
     d: &[u8],
     beta: &[u8],
 ) -> Normed
-    ensures { λ r. ⌜ r ≡ specs.normAnswer p s n m t (now (weights .entry)) (now (tables .entry)) (now (d .entry)) (now (beta .entry)) ⌝ }
+    ensures { λ r. ⌜ specs.answerOf r ≡ specs.normAnswer p s n m t (now (weights .entry)) (now (tables .entry)) (now (d .entry)) (now (beta .entry)) ⌝ }
 {
     match Plan::new(p, s, n, m, t) {
         Checked::Refused(k) => Normed::Refused(k),

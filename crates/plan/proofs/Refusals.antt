@@ -3,6 +3,7 @@
 --     first-refused, first-passed           the same by the first list's refusal
 --     first-none, unmet                     where two lists refuse nothing, neither does; a cause that is not the refusal is not met
 --     result-refused                        a refusal leaves a lent slice as it was
+--     answer-refuses, answer-gives, refused-answer, given-answer, number-answer       an answer by its refusal, and back
 --     refused-prime, refused-radix, refused-range, accepts       the constructor's answer from the facts about its numbers
 --     within-of                             a plan that meets none of causes 1 to 3 is within its limits
 --     call-numbers, call-parts, call-passed       a call's refusal: by its numbers, by its parts, or by its own causes
@@ -23,8 +24,9 @@ use Rattle.lists.proofs.Tests.{both-true}
 use Rattle.field.specs.Primes.{oddPrime}
 use Rattle.field.specs.Rows.{allBelow}
 use Rattle.field.proofs.Ranges.{residues-of}
-use Rattle.plan.specs.Causes.{first, result}
-use Rattle.plan.specs.Numbers.{badRadix, outOfRange, numberCauses, variables, plan, answer, checked, Within}
+use Rattle.lists.specs.Places.{at}
+use Rattle.plan.specs.Causes.{first, result, gives, refuses, answer, numberOf}
+use Rattle.plan.specs.Numbers.{badRadix, outOfRange, numberCauses, variables, plan, numbersOf, answerOf, checked, Within}
 use Rattle.plan.specs.Parts.{linkStart, lengthsFit, valuesFit, partCauses, callCauses, Lent}
 use Rattle.plan.specs.declared.numbers.Plan.{Plan}
 use Rattle.plan.specs.declared.numbers.Checked.the-variants.{Accepted, Refused}
@@ -140,43 +142,56 @@ within-of p s n m t h =
       entry-limit = range .4;
     }
 
--- what the constructor's answer says
-refused-number : (p s n m t k : ℕ) → checked p s n m t ≡ Refused k → (first (numberCauses p s n m t) ≡ k) × (0 < k)
-unfolding checked
-refused-number p s n m t k e = number (first (numberCauses p s n m t)) (plan p s n m t) k e
-  where
-    number : (j : ℕ) (P : Plan) (k : ℕ) → answer j P ≡ Refused k → (j ≡ k) × (0 < k)
-    number zero P k e = let z : _≡_ {A = ℕ} 0 1 = cc in absurd (omega arith)
-    number (suc j) P k e = let same : suc j ≡ k = cc in (same, omega arith)
+-- an answer says its refusal and, where there is none, its values
+pub answer-refuses : (j : ℕ) (vs : List ℕ) (k : ℕ) → answer j vs ≡ refuses k → (j ≡ k) × (0 < k)
+answer-refuses zero vs k e = let z : _≡_ {A = ℕ} 0 1 = cc in absurd (omega arith)
+answer-refuses (suc j) vs k e = let same : suc j ≡ k = cc in (same, omega arith)
 
-accepted-within : (p s n m t : ℕ) (Q : Plan) → checked p s n m t ≡ Accepted Q → (first (numberCauses p s n m t) ≡ 0) × (plan p s n m t ≡ Q) × Within Q
-unfolding checked
+pub answer-gives : (j : ℕ) (vs ws : List ℕ) → answer j vs ≡ gives ws → (j ≡ 0) × (vs ≡ ws)
+answer-gives zero vs ws e = (refl, cc)
+answer-gives (suc j) vs ws e = let z : _≡_ {A = ℕ} 0 1 = cc in absurd (omega arith)
+
+pub refused-answer : (k F : ℕ) (vs : List ℕ) → k ≡ F → 0 < k → refuses k ≡ answer F vs
+refused-answer zero F vs e l = absurd (omega arith)
+refused-answer (suc k) F vs e l = ap (λ (j : ℕ). answer j vs) e
+
+pub given-answer : (F : ℕ) (vs : List ℕ) → F ≡ 0 → gives vs ≡ answer F vs
+given-answer F vs e = ap (λ (j : ℕ). answer j vs) (sym e)
+
+pub number-answer : (k : ℕ) (vs : List ℕ) → numberOf (answer k vs) ≡ k
+number-answer zero vs = refl
+number-answer (suc k) vs = refl
+
+-- what the constructor's answer says
+refused-number : (p s n m t k : ℕ) → checked p s n m t ≡ answerOf (Refused k) → (first (numberCauses p s n m t) ≡ k) × (0 < k)
+unfolding checked answerOf
+refused-number p s n m t k e = answer-refuses (first (numberCauses p s n m t)) (numbersOf (plan p s n m t)) k e
+
+accepted-within : (p s n m t : ℕ) (Q : Plan) → checked p s n m t ≡ answerOf (Accepted Q) → (first (numberCauses p s n m t) ≡ 0) × (plan p s n m t ≡ Q) × Within Q
+unfolding checked answerOf
 accepted-within p s n m t Q e =
-    let a = same (first (numberCauses p s n m t)) (plan p s n m t) e in
-    (a .0, a .1, subst Within (a .1) (within-of p s n m t (a .0)))
-  where
-    same : (j : ℕ) (P : Plan) → answer j P ≡ Accepted Q → (j ≡ 0) × (P ≡ Q)
-    same zero P e = (refl, cc)
-    same (suc j) P e = let z : _≡_ {A = ℕ} 0 1 = cc in absurd (omega arith)
+    let a = answer-gives (first (numberCauses p s n m t)) (numbersOf (plan p s n m t)) (numbersOf Q) e in
+    let same : plan p s n m t ≡ Q = ap (λ (ns : List ℕ). plan (at ns 0) (at ns 1) (at ns 2) (at ns 3) (at ns 4)) (a .1) in
+    (a .0, same, subst Within same (within-of p s n m t (a .0)))
 
 -- the constructor's answers
 module _ (p s n m t : ℕ) where
-  pub refused-prime : oddPrime p ≡ false → Refused 1 ≡ checked p s n m t
-  unfolding checked
+  pub refused-prime : oddPrime p ≡ false → answerOf (Refused 1) ≡ checked p s n m t
+  unfolding checked answerOf
   refused-prime h = rw h
 
   module _ (prime : oddPrime p ≡ true) where
-    pub refused-radix : (2 ≤ s → s ≤ p → ⊥) → Refused 2 ≡ checked p s n m t
-    unfolding checked
+    pub refused-radix : (2 ≤ s → s ≤ p → ⊥) → answerOf (Refused 2) ≡ checked p s n m t
+    unfolding checked answerOf
     refused-radix h = rw (prime, bad-radix p s h)
 
     module _ (low : 2 ≤ s) (high : s ≤ p) where
-      pub refused-range : (1 ≤ n → n + m ≤ 64 → t ≤ 32 → (t + 1) * (n + m) ≤ 1024 → s ^ n ≤ 4096 → ⊥) → Refused 3 ≡ checked p s n m t
-      unfolding checked
+      pub refused-range : (1 ≤ n → n + m ≤ 64 → t ≤ 32 → (t + 1) * (n + m) ≤ 1024 → s ^ n ≤ 4096 → ⊥) → answerOf (Refused 3) ≡ checked p s n m t
+      unfolding checked answerOf
       refused-range h = rw (prime, good-radix p s low high, out-of-range s n m t h)
 
-      pub accepts : 1 ≤ n → n + m ≤ 64 → t ≤ 32 → (t + 1) * (n + m) ≤ 1024 → s ^ n ≤ 4096 → Accepted (plan p s n m t) ≡ checked p s n m t
-      unfolding checked
+      pub accepts : 1 ≤ n → n + m ≤ 64 → t ≤ 32 → (t + 1) * (n + m) ≤ 1024 → s ^ n ≤ 4096 → answerOf (Accepted (plan p s n m t)) ≡ checked p s n m t
+      unfolding checked answerOf
       accepts h1 h2 h3 h4 h5 = rw (prime, good-radix p s low high, in-range s n m t h1 h2 h3 h4 h5)
 
 pub lent-of : (P : Plan) (w T d : List ℕ) (own : Bool) → Within P → first (partCauses P w T d own) ≡ 0 → Lent P w T d × (own ≡ true)
@@ -201,15 +216,15 @@ lent-of P w T d own within h =
       fits .1,
     )
 
-pub call-plan : (p s n m t : ℕ) {Q : Plan} → checked p s n m t ≡ Accepted Q → plan p s n m t ≡ Q
+pub call-plan : (p s n m t : ℕ) {Q : Plan} → checked p s n m t ≡ answerOf (Accepted Q) → plan p s n m t ≡ Q
 call-plan p s n m t {Q} e = accepted-within p s n m t Q e .1
 
-pub call-within : (p s n m t : ℕ) {Q : Plan} → checked p s n m t ≡ Accepted Q → Within Q
+pub call-within : (p s n m t : ℕ) {Q : Plan} → checked p s n m t ≡ answerOf (Accepted Q) → Within Q
 call-within p s n m t {Q} e = accepted-within p s n m t Q e .2
 
 -- a call that is lent a plan: the constructor's refusal, then the parts', then the call's own causes
 module _ (p s n m t : ℕ) (w T d : List ℕ) (own : Plan → Bool) (rest : Plan → List (ℕ × Bool)) where
-  pub call-numbers : (k : ℕ) → checked p s n m t ≡ Refused k → (k ≡ first (callCauses p s n m t w T d own rest)) × (0 < k)
+  pub call-numbers : (k : ℕ) → checked p s n m t ≡ answerOf (Refused k) → (k ≡ first (callCauses p s n m t w T d own rest)) × (0 < k)
   unfolding callCauses
   call-numbers k e =
       let r = refused-number p s n m t k e in
@@ -218,7 +233,7 @@ module _ (p s n m t : ℕ) (w T d : List ℕ) (own : Plan → Bool) (rest : Plan
       P : Plan
       P = plan p s n m t
 
-  module _ (Q : Plan) (e : checked p s n m t ≡ Accepted Q) where
+  module _ (Q : Plan) (e : checked p s n m t ≡ answerOf (Accepted Q)) where
     after-numbers : first (callCauses p s n m t w T d own rest) ≡ first (partCauses Q w T d (own Q) ++ rest Q)
     unfolding callCauses
     after-numbers =

@@ -6,16 +6,17 @@
 --     outOfRange s n m t       cause 3, "n, L, t, C or s^n out of range", as a test
 --     numberCauses p s n m t   causes 1 to 3
 --     plan p s n m t           the plan of these numbers
---     answer k P               an answer from a refusal k: `Accepted` with the plan P where k is 0, else `Refused` with k, 01's number
+--     numbersOf P              the plan's five numbers
+--     answerOf a               01's number and values for each case of the constructor's answer: the plan's numbers, or the refusal's
 --     checked p s n m t        what the constructor answers
 --     Within P                 the plan's numbers meet none of causes 1 to 3, limit by limit
 use mathlib.Core.Path.{_≡_}
 use mathlib.Core.Bool.{Bool, true, not, _||_}
 use mathlib.Core.List.{List, [], _∷_}
-use Prim.Native.Nat.{ℕ, zero, suc, _+_, _*_, _^_, _≤_}
+use Prim.Native.Nat.{ℕ, _+_, _*_, _^_, _≤_}
 use lib.Dec.{ltb}
 use Rattle.field.specs.Primes.{oddPrime}
-use Rattle.plan.specs.Causes.{first}
+use Rattle.plan.specs.Causes.{first, Answer, gives, refuses, answer}
 use Rattle.plan.specs.declared.numbers.Plan.{Plan}
 use Rattle.plan.specs.declared.numbers.Checked.{Checked}
 use Rattle.plan.specs.declared.numbers.Checked.the-variants.{Accepted, Refused}
@@ -43,12 +44,15 @@ numberCauses p s n m t = (1, not (oddPrime p)) ∷ (2, badRadix p s) ∷ (3, out
 abbrev pub plan : ℕ → ℕ → ℕ → ℕ → ℕ → Plan
 plan p s n m t = record { p = p; s = s; n = n; m = m; t = t }
 
-abbrev pub answer : ℕ → Plan → Checked
-answer zero P = Accepted P
-answer (suc k) P = Refused (suc k)
+abbrev pub numbersOf : Plan → List ℕ
+numbersOf P = P .p ∷ P .s ∷ P .n ∷ P .m ∷ P .t ∷ []
 
-unfoldable pub checked : ℕ → ℕ → ℕ → ℕ → ℕ → Checked
-checked p s n m t = answer (first (numberCauses p s n m t)) (plan p s n m t)
+unfoldable pub answerOf : Checked → Answer
+answerOf (Accepted P) = gives (numbersOf P)
+answerOf (Refused k) = refuses k
+
+unfoldable pub checked : ℕ → ℕ → ℕ → ℕ → ℕ → Answer
+checked p s n m t = answer (first (numberCauses p s n m t)) (numbersOf (plan p s n m t))
 
 pub record Within (P : Plan) : Type 0 where
   pub prime : oddPrime (P .p) ≡ true

@@ -47,7 +47,7 @@ impl Plan {
 
     // Causes 1 to 3, in that order. No number is too large to ask: each sum and product is made only where it fits.
     pub fn new(p: usize, s: usize, n: usize, m: usize, t: usize) -> Checked
-        ensures { λ r. ⌜ r ≡ specs.checked p s n m t ⌝ }
+        ensures { λ r. ⌜ specs.answerOf r ≡ specs.checked p s n m t ⌝ }
     {
         if !field::is_odd_prime(p) {
             return Checked::Refused(1);

@@ -18,16 +18,17 @@ use Rattle.lists.specs.Places.{placed}
 use Rattle.field.specs.Residues.{Residues}
 use Rattle.field.specs.Rows.{allBelow}
 use Rattle.field.proofs.Ranges.{residues-of}
-use Rattle.plan.specs.Causes.{first}
+use Rattle.plan.specs.Causes.{first, gives, answer}
+use Rattle.plan.specs.Numbers as numbers
 use Rattle.plan.specs.Numbers.{columns, plan, checked, numberCauses, Within}
 use Rattle.plan.specs.Parts.{partCauses, callCauses, Lent}
 use Rattle.plan.specs.declared.numbers.Plan.{Plan}
 use Rattle.plan.specs.declared.numbers.Checked.the-variants.{Accepted, Refused}
-use Rattle.plan.proofs.Refusals.{first-refused, first-passed, first-none, unmet, result-refused, within-of, lent-of, call-numbers, call-parts, call-passed}
+use Rattle.plan.proofs.Refusals.{first-refused, first-passed, first-none, unmet, result-refused, refused-answer, given-answer, within-of, lent-of, call-numbers, call-parts, call-passed}
 use Rattle.program.specs.Steps.{wellFormed}
 use Rattle.program.specs.Layout.{layout, stepCount}
-use Rattle.program.specs.Calls.{writeCauses, writingCauses, runCauses, written, handed, ran}
-use Rattle.program.specs.declared.running.Ran.the-variants.{Done, Refused as RunRefused}
+use Rattle.program.specs.Calls.{writeCauses, writingCauses, runCauses, written, handed, answerOf}
+use Rattle.program.specs.declared.running.Ran.the-variants.{Refused as RunRefused}
 use Rattle.program.proofs.Shape.{layout-length}
 
 module _ (P : Plan) (w T d β : List ℕ) (room : ℕ) where
@@ -70,11 +71,11 @@ module _ (p s n m t : ℕ) (w T d β steps : List ℕ) where
   ownCauses : Plan → List (ℕ × Bool)
   ownCauses P = (5, not (allBelow (P .p) β)) ∷ (10, ltb (length steps) (4 * stepCount P)) ∷ []
 
-  pub write-numbers : (k : ℕ) → checked p s n m t ≡ Refused k → (k ≡ first (writeCauses p s n m t w T d β steps)) × (0 < k)
+  pub write-numbers : (k : ℕ) → checked p s n m t ≡ numbers.answerOf (Refused k) → (k ≡ first (writeCauses p s n m t w T d β steps)) × (0 < k)
   unfolding writeCauses ownLength ownCauses
   write-numbers k e = call-numbers p s n m t w T d ownLength ownCauses k e
 
-  pub write-checked : (Q : Plan) → checked p s n m t ≡ Accepted Q → first (writeCauses p s n m t w T d β steps) ≡ first (writingCauses Q w T d β (length steps))
+  pub write-checked : (Q : Plan) → checked p s n m t ≡ numbers.answerOf (Accepted Q) → first (writeCauses p s n m t w T d β steps) ≡ first (writingCauses Q w T d β (length steps))
   unfolding writeCauses writingCauses ownLength ownCauses
   write-checked Q e = from (first (partCauses Q w T d (ownLength Q))) refl
     where
@@ -93,44 +94,35 @@ module _ (p s n m t : ℕ) (w T d β steps : List ℕ) where
       let h = first-none (numberCauses p s n m t) (writingCauses (plan p s n m t) w T d β (length steps)) (omega arith) e in
       (within-of p s n m t (h .0), h .1)
 
-ran-refused : (k j y count : ℕ) → k ≡ j → 0 < k → RunRefused k ≡ ran j y count
-unfolding ran
-ran-refused zero j y count e pos = absurd (omega arith)
-ran-refused (suc k) j y count e pos = ap (λ (i : ℕ). ran i y count) e
-
-ran-done : (j y count : ℕ) → j ≡ 0 → Done y count ≡ ran j y count
-unfolding ran
-ran-done j y count e = ap (λ (i : ℕ). ran i y count) (sym e)
-
 -- the run's answers
-module _ (p s n m t : ℕ) (w T d steps digits : List ℕ) (y count : ℕ) where
+module _ (p s n m t : ℕ) (w T d steps digits : List ℕ) (vs : List ℕ) where
   runLength : Plan → Bool
   runLength P = eqb (length digits) (P .n)
 
   ownRun : Plan → List (ℕ × Bool)
   ownRun P = (11, not (wellFormed P steps)) ∷ (12, not (allBelow (P .s) digits)) ∷ []
 
-  pub run-numbers : (k : ℕ) → checked p s n m t ≡ Refused k → RunRefused k ≡ ran (first (runCauses p s n m t w T d steps digits)) y count
+  pub run-numbers : (k : ℕ) → checked p s n m t ≡ numbers.answerOf (Refused k) → answerOf (RunRefused k) ≡ answer (first (runCauses p s n m t w T d steps digits)) vs
   unfolding runCauses runLength ownRun
-  run-numbers k e = let r = call-numbers p s n m t w T d runLength ownRun k e in ran-refused k _ y count (r .0) (r .1)
+  run-numbers k e = let r = call-numbers p s n m t w T d runLength ownRun k e in refused-answer k _ vs (r .0) (r .1)
 
-  module _ (Q : Plan) (e : checked p s n m t ≡ Accepted Q) where
-    pub run-parts : (k : ℕ) → k ≡ first (partCauses Q w T d (eqb (length digits) (Q .n))) → 0 < k → RunRefused k ≡ ran (first (runCauses p s n m t w T d steps digits)) y count
+  module _ (Q : Plan) (e : checked p s n m t ≡ numbers.answerOf (Accepted Q)) where
+    pub run-parts : (k : ℕ) → k ≡ first (partCauses Q w T d (eqb (length digits) (Q .n))) → 0 < k → answerOf (RunRefused k) ≡ answer (first (runCauses p s n m t w T d steps digits)) vs
     unfolding runCauses runLength ownRun
-    run-parts k h pos = ran-refused k _ y count (call-parts p s n m t w T d runLength ownRun Q e k h pos) pos
+    run-parts k h pos = refused-answer k _ vs (call-parts p s n m t w T d runLength ownRun Q e k h pos) pos
 
     module _ (passed : 0 ≡ first (partCauses Q w T d (eqb (length digits) (Q .n)))) where
-      pub run-eleven : wellFormed Q steps ≡ false → RunRefused 11 ≡ ran (first (runCauses p s n m t w T d steps digits)) y count
+      pub run-eleven : wellFormed Q steps ≡ false → answerOf (RunRefused 11) ≡ answer (first (runCauses p s n m t w T d steps digits)) vs
       unfolding runCauses runLength ownRun
-      run-eleven h = ran-refused 11 _ y count (sym (call-passed p s n m t w T d runLength ownRun Q e passed ∙ rw h)) (omega arith)
+      run-eleven h = refused-answer 11 _ vs (sym (call-passed p s n m t w T d runLength ownRun Q e passed ∙ rw h)) (omega arith)
 
-      pub run-twelve : wellFormed Q steps ≡ true → allBelow (Q .s) digits ≡ false → RunRefused 12 ≡ ran (first (runCauses p s n m t w T d steps digits)) y count
+      pub run-twelve : wellFormed Q steps ≡ true → allBelow (Q .s) digits ≡ false → answerOf (RunRefused 12) ≡ answer (first (runCauses p s n m t w T d steps digits)) vs
       unfolding runCauses runLength ownRun
-      run-twelve h k = ran-refused 12 _ y count (sym (call-passed p s n m t w T d runLength ownRun Q e passed ∙ rw (h, k))) (omega arith)
+      run-twelve h k = refused-answer 12 _ vs (sym (call-passed p s n m t w T d runLength ownRun Q e passed ∙ rw (h, k))) (omega arith)
 
-      pub run-done : wellFormed Q steps ≡ true → allBelow (Q .s) digits ≡ true → Done y count ≡ ran (first (runCauses p s n m t w T d steps digits)) y count
+      pub run-done : wellFormed Q steps ≡ true → allBelow (Q .s) digits ≡ true → gives vs ≡ answer (first (runCauses p s n m t w T d steps digits)) vs
       unfolding runCauses runLength ownRun
-      run-done h k = ran-done _ y count (call-passed p s n m t w T d runLength ownRun Q e passed ∙ rw (h, k))
+      run-done h k = given-answer _ vs (call-passed p s n m t w T d runLength ownRun Q e passed ∙ rw (h, k))
 
 -- digits below s are residues
 pub digit-residues : (P : Plan) (digits : List ℕ) → Within P → allBelow (P .s) digits ≡ true → Residues (P .p) digits

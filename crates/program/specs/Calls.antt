@@ -5,12 +5,11 @@
 --     writingCauses     what is left of a writing's causes for a checked plan: 4 5 10
 --     written k P ..    the step slice after the writer: the layout and the rest as it was, or, refusing, all as it was
 --     handed k P ..     what the writer hands back: the layout, or, refusing, nothing
---     ran k y count     the run's answer from its refusal: `Done` with y and the number of bootstraps, or `Refused` with 01's number
+--     answerOf a        01's number and values for each case of the run's answer: y and the number of bootstraps, or the refusal's number
 --     writerHands, runAnswer       what `write` hands back, and what `run` answers
---     numberOf a        01's number for each case of that answer, 0 where the list was run
 use mathlib.Core.Bool.{Bool, not}
 use mathlib.Core.List.{List, [], _∷_, _++_}
-use Prim.Native.Nat.{ℕ, zero, suc, _*_}
+use Prim.Native.Nat.{ℕ, _*_}
 use lib.Dec.{eqb, ltb}
 use lib.ListN.{length}
 use Rattle.lists.specs.Places.{placed}
@@ -18,7 +17,7 @@ use Rattle.field.specs.Rows.{allBelow}
 use Rattle.plan.specs.declared.numbers.Plan.{Plan}
 use Rattle.plan.specs.Numbers.{columns, plan}
 use Rattle.plan.specs.Parts.{partCauses, callCauses}
-use Rattle.plan.specs.Causes.{first, result}
+use Rattle.plan.specs.Causes.{first, result, Answer, gives, refuses, answer}
 use Rattle.program.specs.Steps.{wellFormed, output, bootstraps}
 use Rattle.program.specs.Layout.{layout, stepCount}
 use Rattle.program.specs.declared.running.Ran.{Ran}
@@ -47,18 +46,14 @@ written k P w d β steps = result k (placed steps 0 (layout P w d β)) steps
 unfoldable pub handed : ℕ → Plan → List ℕ → List ℕ → List ℕ → List ℕ
 handed k P w d β = result k (layout P w d β) []
 
-unfoldable pub ran : ℕ → ℕ → ℕ → Ran
-ran zero y count = Done y count
-ran (suc k) y count = Refused (suc k)
+abbrev pub answerOf : Ran → Answer
+answerOf (Done y count) = gives (y ∷ count ∷ [])
+answerOf (Refused k) = refuses k
 
 -- the calls as a whole, as their contracts and demand 3 say them
 abbrev pub writerHands : ℕ → ℕ → ℕ → ℕ → ℕ → List ℕ → List ℕ → List ℕ → List ℕ → List ℕ → List ℕ
 writerHands p s n m t w T d β steps = handed (first (writeCauses p s n m t w T d β steps)) (plan p s n m t) w d β
 
-abbrev pub runAnswer : ℕ → ℕ → ℕ → ℕ → ℕ → List ℕ → List ℕ → List ℕ → List ℕ → List ℕ → Ran
+abbrev pub runAnswer : ℕ → ℕ → ℕ → ℕ → ℕ → List ℕ → List ℕ → List ℕ → List ℕ → List ℕ → Answer
 runAnswer p s n m t w T d steps digits =
-    ran (first (runCauses p s n m t w T d steps digits)) (output (plan p s n m t) T steps digits) (bootstraps steps)
-
-abbrev pub numberOf : Ran → ℕ
-numberOf (Done y count) = 0
-numberOf (Refused k) = k
+    answer (first (runCauses p s n m t w T d steps digits)) (output (plan p s n m t) T steps digits ∷ bootstraps steps ∷ [])

@@ -123,7 +123,7 @@ pub fn run(
     steps: &[u16],
     digits: &[u8],
 ) -> Ran
-    ensures { λ r. ⌜ r ≡ specs.runAnswer p s n m t (now (weights .entry)) (now (tables .entry)) (now (d .entry)) (now (steps .entry)) (now (digits .entry)) ⌝ }
+    ensures { λ r. ⌜ specs.answerOf r ≡ specs.runAnswer p s n m t (now (weights .entry)) (now (tables .entry)) (now (d .entry)) (now (steps .entry)) (now (digits .entry)) ⌝ }
 {
     match Plan::new(p, s, n, m, t) {
         Checked::Refused(k) => Ran::Refused(k),

@@ -1,12 +1,15 @@
 // Running a list of steps.
 ghost use mathlib.Core.Path.{_≡_};
 ghost use mathlib.Core.Bool.{true};
+ghost use mathlib.Core.List.{[], _∷_};
 ghost use Prim.Native.Nat.{_+_, _*_, _/_, _%_, _≤_, _<_};
 ghost use lib.ListN.{length, set};
 ghost use Rattle.lists.specs.Places.{at};
 ghost use Rattle.field.specs.Residues.{Modulus, Residues, inverse, square};
+ghost use Rattle.plan.specs.Causes.{gives};
 ghost use Rattle.plan.specs.Numbers.{Within};
 ghost use Rattle.program.specs.Steps as specs;
+ghost use Rattle.program.specs.Calls.{answerOf};
 use plan::Plan;
 
 // What the run answers: y and the number of bootstraps carried out, or the number of the refusal.
@@ -165,7 +168,7 @@ pub fn run_steps(plan: Plan, tables: &[u8], steps: &[u16], digits: &[u8]) -> Ran
     requires { ⌜ (length (now tables) ≡ plan .m * plan .p) × (Residues (plan .p) (now tables)) ⌝ }
     requires { ⌜ specs.wellFormed plan (now steps) ≡ true ⌝ }
     requires { ⌜ (length (now digits) ≡ plan .n) × (Residues (plan .p) (now digits)) ⌝ }
-    ensures { λ r. ⌜ r ≡ Ran.Done (specs.output plan (now (tables .entry)) (now (steps .entry)) (now (digits .entry))) (specs.bootstraps (now (steps .entry))) ⌝ }
+    ensures { λ r. ⌜ answerOf r ≡ gives (specs.output plan (now (tables .entry)) (now (steps .entry)) (now (digits .entry)) ∷ specs.bootstraps (now (steps .entry)) ∷ []) ⌝ }
 {
     let p = plan.p;
     let quarter = field::inverse(4 % p, p);

@@ -20,7 +20,7 @@ use Rattle.lists.proofs.Tabs.{tab-length, tab-at}
 use Rattle.field.proofs.Ranges.{residues-tab}
 use Rattle.store.specs.Elimination.{ZeroRow, Reduced, residual, lead, normal, put, outcome, after, cells, flat}
 use Rattle.store.specs.Stages.{Line}
-use Rattle.store.specs.Calls.{answered}
+use Rattle.store.specs.Calls.{answerOf, answered}
 use Rattle.store.specs.declared.elimination.Filed.the-variants.{New, Implied, Refused}
 use Rattle.store.proofs.Leads.{lead-ext, lead-before, lead-nonzero}
 use Rattle.store.proofs.Bytes.{flat-cells, flat-ext}
@@ -85,8 +85,8 @@ module _ (p C : ℕ) (store : List ℕ) (e : ℕ → ℕ) (k : ℕ) (g : k ≡ l
         (ap (residual p C (cells C store) e) (sym g) ∙ residual-pivot p C (cells C store) e k l (small k (le-of-lt l)) v)))
         (red .rows k l)
 
-    pub new-answer : New k ≡ answered 0 (outcome p C (cells C store) e)
-    unfolding answered outcome
+    pub new-answer : answerOf (New k) ≡ answered (outcome p C (cells C store) e)
+    unfolding outcome
     new-answer = rw (sym g, lt-ltb k C l)
 
     pub new-store : (res : ℕ → ℕ) → ((j : ℕ) → j ≤ C → res j ≡ residual p C (cells C store) e j)
@@ -99,12 +99,12 @@ module _ (p C : ℕ) (store : List ℕ) (e : ℕ → ℕ) (k : ℕ) (g : k ≡ l
         (normal-ext p C res (residual p C (cells C store) e) k (le-of-lt l) same)))
 
   module _ (l : C ≤ k) where
-    pub conflict-answer : (residual p C (cells C store) e C ≡ 0 → ⊥) → Refused 9 ≡ answered 0 (outcome p C (cells C store) e)
-    unfolding answered outcome
+    pub conflict-answer : (residual p C (cells C store) e C ≡ 0 → ⊥) → answerOf (Refused 9) ≡ answered (outcome p C (cells C store) e)
+    unfolding outcome
     conflict-answer d = rw (sym g, le-ltb k C l, ne-eqb (residual p C (cells C store) e C) 0 d)
 
-    pub implied-answer : residual p C (cells C store) e C ≡ 0 → Implied ≡ answered 0 (outcome p C (cells C store) e)
-    unfolding answered outcome
+    pub implied-answer : residual p C (cells C store) e C ≡ 0 → answerOf Implied ≡ answered (outcome p C (cells C store) e)
+    unfolding outcome
     implied-answer z = rw (sym g, le-ltb k C l, eq-eqb (residual p C (cells C store) e C) 0 z)
 
     pub same-store : length store ≡ C * (C + 1) → store ≡ flat C (after p C (cells C store) e)

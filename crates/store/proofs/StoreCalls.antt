@@ -12,14 +12,14 @@ use native.Mathlib.Nat.{mul-le-mul}
 use native.Mathlib.Omega.{arith}
 use lib.ListN.{length}
 use Rattle.plan.specs.declared.numbers.Plan.{Plan}
-use Rattle.plan.specs.Causes.{result}
+use Rattle.plan.specs.Causes.{result, answer}
 use Rattle.plan.specs.Numbers.{columns, Within}
 use Rattle.plan.proofs.Bounds.{modulus}
-use Rattle.plan.proofs.Refusals.{result-refused}
+use Rattle.plan.proofs.Refusals.{result-refused, refused-answer}
 use Rattle.store.specs.Elimination.{Outcome, new, implied, contradiction, isReduced, outcome, cells, flat}
 use Rattle.store.specs.Filings.{isContradiction}
 use Rattle.store.specs.Stages.{Ready}
-use Rattle.store.specs.Calls.{equation, answered, filed}
+use Rattle.store.specs.Calls.{equation, answerOf, valuesOf, answered, filed}
 use Rattle.store.specs.declared.elimination.Filed.{Filed}
 use Rattle.store.specs.declared.elimination.Filed.the-variants.{Refused}
 use Rattle.store.proofs.Bytes.{flat-cells}
@@ -42,22 +42,9 @@ ready-of P store within places h =
       reduced = isReduced-means (P .p) (columns P) (cells (columns P) store) .0 h;
     }
 
-refused-answer : (k : ℕ) (o : Outcome) → 0 < k → Refused k ≡ answered k o
-unfolding answered
-refused-answer zero o l = absurd (omega arith)
-refused-answer (suc k) o l = refl
-
 -- what a refusal answers and leaves, where F is the call's refusal
-pub refused-call : (F k : ℕ) (o : Outcome) (out old : List ℕ) → k ≡ F → 0 < k → (Refused k ≡ answered F o) × (old ≡ result F out old)
-refused-call F k o out old e l =
-    let l′ : 0 < F = omega arith in
-    (ap Refused e ∙ refused-answer F o l′, sym (result-refused F out old l′))
-
-conflict-last : (o : Outcome) → answered 0 o ≡ answered (cond (isContradiction o) 9 0) o
-unfolding answered
-conflict-last (new c) = refl
-conflict-last implied = refl
-conflict-last contradiction = refl
+pub refused-call : (F k : ℕ) (vs out old : List ℕ) → k ≡ F → 0 < k → (answerOf (Refused k) ≡ answer F vs) × (old ≡ result F out old)
+refused-call F k vs out old e l = let l′ : 0 < F = omega arith in (refused-answer k F vs e l, sym (result-refused F out old l′))
 
 filed-last : (P : Plan) (w T d store : List ℕ) (i v : ℕ) → length store ≡ columns P * (columns P + 1)
     → filed P w T d store i v
@@ -77,10 +64,10 @@ filed-last P w T d store i v places =
 -- what the last return answers and leaves, where the other causes are not met
 pub filed-call : (P Q : Plan) (w T d store : List ℕ) (i v F : ℕ) (r : Filed) (out : List ℕ) → P ≡ Q → length store ≡ columns Q * (columns Q + 1)
     → F ≡ cond (isContradiction (outcome (Q .p) (columns Q) (cells (columns Q) store) (equation Q w T d i v))) 9 0
-    → r ≡ answered 0 (outcome (Q .p) (columns Q) (cells (columns Q) store) (equation Q w T d i v)) → out ≡ filed Q w T d store i v
-    → (r ≡ answered F (outcome (P .p) (columns P) (cells (columns P) store) (equation P w T d i v))) × (out ≡ result F (filed P w T d store i v) store)
-filed-call P Q w T d store i v F r out same places f answer left = (
-  answer ∙ conflict-last (o Q) ∙ ap₂ (λ (k : ℕ) (R : Plan). answered k (o R)) (sym f) (sym same),
+    → answerOf r ≡ answered (outcome (Q .p) (columns Q) (cells (columns Q) store) (equation Q w T d i v)) → out ≡ filed Q w T d store i v
+    → (answerOf r ≡ answer F (valuesOf (outcome (P .p) (columns P) (cells (columns P) store) (equation P w T d i v)))) × (out ≡ result F (filed P w T d store i v) store)
+filed-call P Q w T d store i v F r out same places f given left = (
+  given ∙ ap₂ (λ (k : ℕ) (R : Plan). answer k (valuesOf (o R))) (sym f) (sym same),
   left ∙ filed-last Q w T d store i v places ∙ ap₂ (λ (k : ℕ) (R : Plan). result k (filed R w T d store i v) store) (sym f) (sym same),
 )
   where

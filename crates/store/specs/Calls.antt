@@ -7,25 +7,26 @@
 --     valueCause P v             8, "value not below s"
 --     conflictCause ..           9, "contradiction"
 --     testCauses, fileCauses, coefficientsCauses       the causes of each call
---     answered k o               what filing answers, from its refusal k and its outcome o: `New` with the pivot column, `Implied`, or `Refused` with 01's number
---     numberOf                   01's number for each case of that answer, 0 where the entry is kept
+--     answerOf a                 01's number and values for each case of filing's answer: the pivot column of `New`, none of `Implied`, the refusal's number
+--     valuesOf o                 the values that an outcome gives
+--     answered o                 the answer by its outcome o alone, where no cause before 9 is met
 --     filed                      the store after filing
 --     Spans .. S′                S′ is in reduced form, and spans the same equations as the old store and the entry
 --     OneReduced                 the store after filing is the one that does
 --     fileAnswer, fileStore      what `file` answers, and the store it leaves
 --     coefficients C store       the coefficients read off: "coefficient q is the right-hand side of row q"
 use mathlib.Core.Path.{_≡_}
-use mathlib.Core.Bool.{Bool, not, _&&_}
+use mathlib.Core.Bool.{Bool, cond, not, _&&_}
 use mathlib.Core.Logic.{_↔_}
 use mathlib.Core.List.{List, [], _∷_, _++_}
-use Prim.Native.Nat.{ℕ, zero, suc, _+_, _*_}
+use Prim.Native.Nat.{ℕ, _+_, _*_}
 use lib.Dec.{eqb, ltb}
 use lib.ListN.{length, replicate}
 use Rattle.lists.specs.Places.{tab, at}
 use Rattle.field.specs.Residues.{Residues}
 use Rattle.plan.specs.declared.numbers.Plan.{Plan}
 use Rattle.plan.specs.Numbers.{columns, plan}
-use Rattle.plan.specs.Causes.{first, result}
+use Rattle.plan.specs.Causes.{first, result, Answer, gives, refuses, answer}
 use Rattle.plan.specs.Parts.{callCauses}
 use Rattle.plan.specs.Rows.{row, entryCause}
 use Rattle.store.specs.Elimination.{Satisfies, Solves, Reduced, Outcome, new, implied, contradiction, isReduced, outcome, after, readOff, cells, flat}
@@ -64,16 +65,19 @@ unfoldable pub coefficientsCauses : ℕ → ℕ → ℕ → ℕ → ℕ → List
 coefficientsCauses p s n m t w T d store β =
     callCauses p s n m t w T d (λ P. storeFits P store && eqb (length β) (columns P)) (λ P. storeCause P store ∷ [])
 
-unfoldable pub answered : ℕ → Outcome → Filed
-answered zero (new c) = New c
-answered zero implied = Implied
-answered zero contradiction = Refused 9
-answered (suc k) o = Refused (suc k)
+-- "It answers New with the pivot column, Implied, or a refusal"
+abbrev pub answerOf : Filed → Answer
+answerOf (New c) = gives (c ∷ [])
+answerOf Implied = gives []
+answerOf (Refused k) = refuses k
 
-abbrev pub numberOf : Filed → ℕ
-numberOf (New c) = 0
-numberOf Implied = 0
-numberOf (Refused k) = k
+abbrev pub valuesOf : Outcome → List ℕ
+valuesOf (new c) = c ∷ []
+valuesOf implied = []
+valuesOf contradiction = []
+
+abbrev pub answered : Outcome → Answer
+answered o = answer (cond (isContradiction o) 9 0) (valuesOf o)
 
 unfoldable pub filed : Plan → List ℕ → List ℕ → List ℕ → List ℕ → ℕ → ℕ → List ℕ
 filed P w T d store i v =
@@ -98,10 +102,10 @@ unfoldable pub coefficients : ℕ → List ℕ → List ℕ
 coefficients C store = tab C (readOff C (cells C store))
 
 -- the calls as a whole, as their contracts and demand 3 say them
-abbrev pub fileAnswer : ℕ → ℕ → ℕ → ℕ → ℕ → List ℕ → List ℕ → List ℕ → List ℕ → ℕ → ℕ → Filed
+abbrev pub fileAnswer : ℕ → ℕ → ℕ → ℕ → ℕ → List ℕ → List ℕ → List ℕ → List ℕ → ℕ → ℕ → Answer
 fileAnswer p s n m t w T d store i v =
     let P = plan p s n m t in
-    answered (first (fileCauses p s n m t w T d store i v)) (outcome p (columns P) (cells (columns P) store) (equation P w T d i v))
+    answer (first (fileCauses p s n m t w T d store i v)) (valuesOf (outcome p (columns P) (cells (columns P) store) (equation P w T d i v)))
 
 abbrev pub fileStore : ℕ → ℕ → ℕ → ℕ → ℕ → List ℕ → List ℕ → List ℕ → List ℕ → ℕ → ℕ → List ℕ
 fileStore p s n m t w T d store i v = result (first (fileCauses p s n m t w T d store i v)) (filed (plan p s n m t) w T d store i v) store

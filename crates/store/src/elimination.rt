@@ -195,7 +195,7 @@ fn put_row(store: &mut [u8], res: &[u8], k: usize, c: usize, p: u8)
 pub fn file_equation(store: &mut [u8], e: &[u8], c: usize, p: u8) -> Filed
     requires { ⌜ Ready p c (now store) ⌝ }
     requires { ⌜ Line p c (now e) ⌝ }
-    ensures { λ r. ⌜ r ≡ calls.answered 0 (specs.outcome p c (cells c (now (store .entry))) (at (now (e .entry)))) ⌝ }
+    ensures { λ r. ⌜ calls.answerOf r ≡ calls.answered (specs.outcome p c (cells c (now (store .entry))) (at (now (e .entry)))) ⌝ }
     ensures { λ r. ⌜ now (store .exit) ≡ flat c (specs.after p c (cells c (now (store .entry))) (at (now (e .entry)))) ⌝ }
 {
     let mut res = [0u8; Plan::COLUMNS + 1];
@@ -226,7 +226,7 @@ pub fn file_entry(
     requires { ⌜ Lent plan (now weights) (now tables) (now d) ⌝ }
     requires { ⌜ Ready (plan .p) (columns plan) (now store) ⌝ }
     requires { ⌜ value < plan .p ⌝ }
-    ensures { λ r. ⌜ r ≡ calls.answered 0 (specs.outcome (plan .p) (columns plan) (cells (columns plan) (now (store .entry))) (calls.equation plan (now (weights .entry)) (now (tables .entry)) (now (d .entry)) entry value)) ⌝ }
+    ensures { λ r. ⌜ calls.answerOf r ≡ calls.answered (specs.outcome (plan .p) (columns plan) (cells (columns plan) (now (store .entry))) (calls.equation plan (now (weights .entry)) (now (tables .entry)) (now (d .entry)) entry value)) ⌝ }
     ensures { λ r. ⌜ now (store .exit) ≡ calls.filed plan (now (weights .entry)) (now (tables .entry)) (now (d .entry)) (now (store .entry)) entry value ⌝ }
 {
     let mut row = [0u8; Plan::COLUMNS + 1];

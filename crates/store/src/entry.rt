@@ -59,7 +59,7 @@ pub fn file(
     entry: usize,
     value: usize,
 ) -> Filed
-    ensures { λ r. ⌜ r ≡ specs.fileAnswer p s n m t (now (weights .entry)) (now (tables .entry)) (now (d .entry)) (now (store .entry)) entry value ⌝ }
+    ensures { λ r. ⌜ specs.answerOf r ≡ specs.fileAnswer p s n m t (now (weights .entry)) (now (tables .entry)) (now (d .entry)) (now (store .entry)) entry value ⌝ }
     ensures { λ r. ⌜ now (store .exit) ≡ specs.fileStore p s n m t (now (weights .entry)) (now (tables .entry)) (now (d .entry)) (now (store .entry)) entry value ⌝ }
 {
     match Plan::new(p, s, n, m, t) {

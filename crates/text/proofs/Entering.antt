@@ -6,7 +6,7 @@
 --     entries-refuses, entries-reaches   an entry line, at its place in the buffers
 -- Assumes nothing.
 use mathlib.Core.Path.{_≡_, refl, sym, ap, _∙_}
-use mathlib.Core.Bool.{true, false, true≢false}
+use mathlib.Core.Bool.{true, false}
 use mathlib.Core.List.{List, _++_, append-nil}
 use Prim.Native.Nat.{ℕ, zero, suc, _+_, _*_, _≤_}
 use native.Mathlib.Nat.{mul-le-mul, le-antisymm}
@@ -15,13 +15,11 @@ use lib.ListN.{length, take, drop, replicate, length-replicate, drop-of-length-l
 use lib.Seq.{take-at, length-take-le}
 use Rattle.lists.specs.Places.{at}
 use Rattle.plan.specs.declared.numbers.Plan.{Plan}
-use Rattle.plan.specs.Causes.{first, result}
+use Rattle.plan.specs.Causes.{first, result, numberOf, answer}
 use Rattle.plan.specs.Numbers.{columns}
-use Rattle.store.specs.Elimination.{Outcome, new, implied, contradiction, outcome, cells}
-use Rattle.store.specs.Filings.{isContradiction}
-use Rattle.store.specs.Calls.{equation, fileCauses, answered, numberOf, filed}
+use Rattle.plan.proofs.Refusals.{number-answer}
+use Rattle.store.specs.Calls.{fileCauses, answerOf, filed}
 use Rattle.store.specs.declared.elimination.Filed.{Filed}
-use Rattle.store.proofs.Readiness.{no-conflict}
 use Rattle.text.specs.Lines.{asks, numbers, same}
 use Rattle.text.specs.Meaning.{names, header, entryNames, entries, next, cause, unless, planNames, pairNames, entryCauses, entered, judged}
 use Rattle.text.proofs.Judging.{refuses, reaches}
@@ -65,20 +63,6 @@ module _ (P : Plan) (w T d : List ℕ) (line : List ℕ) where
       (ap (λ (s : List ℕ). next (entries P w T d s))
       (front S part size (columns P * (columns P + 1)) h (ap length whole ∙ length-replicate size 0) ∙ whole ∙ ap (λ (n : ℕ). replicate n 0) h))
 
--- a filing that meets no cause is no contradiction
-number-answered : (k : ℕ) (o : Outcome) → (k ≡ 0 → isContradiction o ≡ false) → numberOf (answered k o) ≡ k
-unfolding answered
-number-answered zero (new c) h = refl
-number-answered zero implied h = refl
-number-answered zero contradiction h = let z : true ≡ false = h refl in absurd (true≢false z)
-number-answered (suc k) o h = refl
-
-module _ (P : Plan) (w T d S : List ℕ) (i v : ℕ) where
-  filed-number : numberOf (answered (first (fileCauses (P .p) (P .s) (P .n) (P .m) (P .t) w T d S i v)) (outcome (P .p) (columns P) (cells (columns P) S) (equation P w T d i v))) ≡ first (fileCauses (P .p) (P .s) (P .n) (P .m) (P .t) w T d S i v)
-  filed-number =
-      number-answered (first (fileCauses (P .p) (P .s) (P .n) (P .m) (P .t) w T d S i v)) (outcome (P .p) (columns P) (cells (columns P) S) (equation P w T d i v))
-      (no-conflict P w T d S i v)
-
 module _ (P : Plan) (w T d S line : List ℕ) where
   pub entry-thirteen : asks 2 line ≡ false → 13 ≡ first (entryCauses P w T d S line)
   entry-thirteen e = rw e
@@ -87,11 +71,11 @@ module _ (P : Plan) (w T d S line : List ℕ) where
   passed e = rw e
 
   module _ (ns : List ℕ) (read : ns ≡ numbers line) (asks2 : asks 2 line ≡ true) where
-    pub entry-number : (r : ℕ) (f : Filed) → r ≡ numberOf f
-        → f ≡ answered (first (fileCauses (P .p) (P .s) (P .n) (P .m) (P .t) w T d S (at ns 0) (at ns 1))) (outcome (P .p) (columns P) (cells (columns P) S) (equation P w T d (at ns 0) (at ns 1)))
+    pub entry-number : (r : ℕ) (f : Filed) (vs : List ℕ) → r ≡ numberOf (answerOf f)
+        → answerOf f ≡ answer (first (fileCauses (P .p) (P .s) (P .n) (P .m) (P .t) w T d S (at ns 0) (at ns 1))) vs
         → r ≡ first (entryCauses P w T d S line)
-    entry-number r f e h =
-        e ∙ ap numberOf h ∙ filed-number P w T d S (at ns 0) (at ns 1)
+    entry-number r f vs e h =
+        e ∙ ap numberOf h ∙ number-answer (first (fileCauses (P .p) (P .s) (P .n) (P .m) (P .t) w T d S (at ns 0) (at ns 1))) vs
         ∙ ap (λ (l : List ℕ). first (fileCauses (P .p) (P .s) (P .n) (P .m) (P .t) w T d S (at l 0) (at l 1))) read
         ∙ passed asks2
 

@@ -20,8 +20,8 @@ use Rattle.lists.specs.Places.{at, placed}
 use Rattle.plan.specs.declared.numbers.Plan.{Plan}
 use Rattle.plan.specs.declared.numbers.Checked.the-variants.{Accepted, Refused}
 use Rattle.plan.specs.Causes.{first, result}
-use Rattle.plan.specs.Numbers.{columns, numberCauses, plan, answer, checked}
-use Rattle.plan.proofs.Refusals.{first-refused, first-passed, call-plan}
+use Rattle.plan.specs.Numbers.{columns, numberCauses, plan, numbersOf, answerOf, checked}
+use Rattle.plan.proofs.Refusals.{first-refused, first-passed, answer-refuses, answer-gives, call-plan}
 use Rattle.text.specs.Lines.{cutAt, number, asks, numbers, lineCauses}
 use Rattle.text.specs.Meaning.{Place, header, weights, table, product, entryNames, Judged, next, cause, unless, afterLinks, afterProducts, headerCauses, headerPlan, judged}
 use Rattle.text.proofs.Filling.{asked}
@@ -48,15 +48,6 @@ pub reaches : (k : ℕ) (place : Place) → k ≡ 0 → next place ≡ unless k 
 reaches zero place h = refl
 reaches (suc k) place h = absurd (omega arith)
 
--- what the constructor's answer says
-number-of : (j : ℕ) (P : Plan) (k : ℕ) → answer j P ≡ Refused k → (j ≡ k) × (0 < k)
-number-of zero P k e = let z : _≡_ {A = ℕ} 0 1 = cc in absurd (omega arith)
-number-of (suc j) P k e = let same : suc j ≡ k = cc in (same, omega arith)
-
-none-of : (j : ℕ) (P Q : Plan) → answer j P ≡ Accepted Q → j ≡ 0
-none-of zero P Q e = refl
-none-of (suc j) P Q e = let z : _≡_ {A = ℕ} 0 1 = cc in absurd (omega arith)
-
 pub header-thirteen : (line : List ℕ) → asks 5 line ≡ false → cause 13 ≡ judged header line
 unfolding judged
 header-thirteen line e = rw e
@@ -73,17 +64,17 @@ module _ (p s n m t : ℕ) where
   wide : List (ℕ × Bool)
   wide = (14, ltb 255 (columns (plan p s n m t))) ∷ []
 
-  outcome-refused : (k : ℕ) → checked p s n m t ≡ Refused k → cause k ≡ outcome (plan p s n m t)
-  unfolding checked outcome wide
+  outcome-refused : (k : ℕ) → checked p s n m t ≡ answerOf (Refused k) → cause k ≡ outcome (plan p s n m t)
+  unfolding checked answerOf outcome wide
   outcome-refused k e =
-      let r = number-of (first (numberCauses p s n m t)) (plan p s n m t) k e in
+      let r = answer-refuses (first (numberCauses p s n m t)) (numbersOf (plan p s n m t)) k e in
       refuses k (afterLinks (plan p s n m t) 0 [] []) (λ z. omega (arith, r .1))
       ∙ ap (λ (j : ℕ). unless j (afterLinks (plan p s n m t) 0 [] [])) (first-refused (numberCauses p s n m t) wide k (omega arith) (r .0) (r .1))
 
-  module _ (Q : Plan) (e : checked p s n m t ≡ Accepted Q) where
+  module _ (Q : Plan) (e : checked p s n m t ≡ answerOf (Accepted Q)) where
     passed : first (headerCauses (plan p s n m t)) ≡ first wide
-    unfolding checked wide
-    passed = first-passed (numberCauses p s n m t) wide (omega arith) (none-of (first (numberCauses p s n m t)) (plan p s n m t) Q e)
+    unfolding checked answerOf wide
+    passed = first-passed (numberCauses p s n m t) wide (omega arith) (answer-gives (first (numberCauses p s n m t)) (numbersOf (plan p s n m t)) (numbersOf Q) e .0)
 
     same-columns : columns Q ≡ columns (plan p s n m t)
     same-columns = ap columns (sym (call-plan p s n m t e))
@@ -106,10 +97,10 @@ module _ (line ns : List ℕ) (e : ns ≡ numbers line) (asks5 : asks 5 line ≡
   is-outcome : outcome (plan (at ns 0) (at ns 1) (at ns 2) (at ns 3) (at ns 4)) ≡ judged header line
   is-outcome = ap (λ (l : List ℕ). outcome (headerPlan l)) e ∙ sym (header-judged line asks5)
 
-  pub header-refused : (k : ℕ) → checked (at ns 0) (at ns 1) (at ns 2) (at ns 3) (at ns 4) ≡ Refused k → cause k ≡ judged header line
+  pub header-refused : (k : ℕ) → checked (at ns 0) (at ns 1) (at ns 2) (at ns 3) (at ns 4) ≡ answerOf (Refused k) → cause k ≡ judged header line
   header-refused k h = outcome-refused (at ns 0) (at ns 1) (at ns 2) (at ns 3) (at ns 4) k h ∙ is-outcome
 
-  module _ (Q : Plan) (h : checked (at ns 0) (at ns 1) (at ns 2) (at ns 3) (at ns 4) ≡ Accepted Q) where
+  module _ (Q : Plan) (h : checked (at ns 0) (at ns 1) (at ns 2) (at ns 3) (at ns 4) ≡ answerOf (Accepted Q)) where
     pub header-wide : 255 < columns Q → cause 14 ≡ judged header line
     header-wide l = outcome-wide (at ns 0) (at ns 1) (at ns 2) (at ns 3) (at ns 4) Q h l ∙ is-outcome
 

@@ -5,8 +5,8 @@ ghost use Prim.Native.Nat.{ℕ, _+_, _*_, _≤_};
 ghost use lib.ListN.{length, take, replicate};
 ghost use Rattle.plan.specs.Numbers.{columns};
 ghost use Rattle.text.specs.Meaning as meaning;
-ghost use Rattle.plan.specs.Causes.{first, result};
-ghost use Rattle.store.specs.Calls.{numberOf};
+ghost use Rattle.plan.specs.Causes.{first, result, numberOf};
+ghost use Rattle.store.specs.Calls.{answerOf};
 ghost use Rattle.text.specs.Progress.{judgedOf, Planned, Fits};
 use crate::reading::asks;
 use crate::reading::read_numbers;
@@ -52,7 +52,7 @@ pub fn pair_line(plan: Plan, a: usize, b: usize, c: usize, line: &[u8], store: &
 
 // 01's number for an answer of filing: 0 where the entry is kept.
 fn number_of(filed: Filed) -> u8
-    ensures { λ r. ⌜ r ≡ numberOf filed ⌝ }
+    ensures { λ r. ⌜ r ≡ numberOf (answerOf filed) ⌝ }
 {
     match filed {
         Filed::New(_) => 0,

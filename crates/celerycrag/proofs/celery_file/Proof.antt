@@ -1,8 +1,9 @@
 -- `celerycrag::celery_file` meets its contract: each arm of the match is one case of the answer, and an implied entry's plan is accepted, so
 -- that its number of columns fits. Assumes nothing.
-use mathlib.Core.Path.{sym, _∙_}
+use mathlib.Core.Path.{sym, ap, _∙_}
 use native.Mathlib.Omega.{arith}
 use borrow.Author.Needs.{needs}
+use Rattle.store.specs.Calls.{answerOf}
 use Rattle.celerycrag.proofs.Accepted.{implied-within}
 use Rattle.celerycrag.proofs.celery_file.Statement.{statement}
 use Rattle.celerycrag.proofs.celery_file.Tie as tie
@@ -19,17 +20,17 @@ enum-told c = search needs
 add-column : tie.Need-add-column
 add-column c =
     let file = c .before .before .before .before .file in
-    omega (arith, implied-within _ _ _ _ _ _ _ _ _ _ _ _ (sym (file .ensures .0) ∙ c .enum-told .given .1))
+    omega (arith, implied-within _ _ _ _ _ _ _ _ _ _ _ _ (sym (file .ensures .0) ∙ ap answerOf (c .enum-told .given .1)))
 
 add-column-2 : tie.Need-add-column-2
 add-column-2 c =
     let file = c .before .before .before .before .file in
-    omega (arith, implied-within _ _ _ _ _ _ _ _ _ _ _ _ (sym (file .ensures .0) ∙ c .enum-told .given .1))
+    omega (arith, implied-within _ _ _ _ _ _ _ _ _ _ _ _ (sym (file .ensures .0) ∙ ap answerOf (c .enum-told .given .1)))
 
 mul-column : tie.Need-mul-column
 mul-column c =
     let file = c .before .before .before .before .file in
-    omega (arith, implied-within _ _ _ _ _ _ _ _ _ _ _ _ (sym (file .ensures .0) ∙ c .enum-told .given .1))
+    omega (arith, implied-within _ _ _ _ _ _ _ _ _ _ _ _ (sym (file .ensures .0) ∙ ap answerOf (c .enum-told .given .1)))
 
 enum-known-a-2 : tie.Need-enum-known-a-2
 enum-known-a-2 c = search needs
@@ -40,7 +41,7 @@ same-length c = search needs
 returns : tie.Need-returns
 returns c =
     let file = c .before .before .before .before .before .file in
-    let e = sym (file .ensures .0) ∙ c .before .a .given .1 in
+    let e = sym (file .ensures .0) ∙ ap answerOf (c .before .a .given .1) in
     (rw e, (file .ensures .1, rw e))
 
 same-length-2 : tie.Need-same-length-2
@@ -49,7 +50,7 @@ same-length-2 c = search needs
 returns-2 : tie.Need-returns-2
 returns-2 c =
     let file = c .before .before .before .before .file in
-    let e = sym (file .ensures .0) ∙ c .enum-told .given .1 in
+    let e = sym (file .ensures .0) ∙ ap answerOf (c .enum-told .given .1) in
     (rw e, (file .ensures .1, rw e))
 
 same-length-3 : tie.Need-same-length-3
@@ -58,7 +59,7 @@ same-length-3 c = search needs
 returns-3 : tie.Need-returns-3
 returns-3 c =
     let file = c .before .before .before .before .before .file in
-    let e = sym (file .ensures .0) ∙ c .before .a2 .given .1 in
+    let e = sym (file .ensures .0) ∙ ap answerOf (c .before .a2 .given .1) in
     (rw e, (file .ensures .1, rw e))
 
 pub celery-file-spec : {M : Type 1} → statement M

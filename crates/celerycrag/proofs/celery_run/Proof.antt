@@ -1,6 +1,7 @@
 -- `celerycrag::celery_run` meets its contract: each arm of the match is one case of the answer. Assumes nothing.
-use mathlib.Core.Path.{sym, _∙_}
+use mathlib.Core.Path.{sym, ap, _∙_}
 use borrow.Author.Needs.{needs}
+use Rattle.program.specs.Calls.{answerOf}
 use Rattle.celerycrag.proofs.celery_run.Statement.{statement}
 use Rattle.celerycrag.proofs.celery_run.Tie as tie
 
@@ -16,13 +17,13 @@ enum-known-a-2 c = search needs
 returns : tie.Need-returns
 returns c =
     let run = c .before .before .before .run in
-    let e = sym (run .ensures) ∙ c .before .a .given .1 in
+    let e = sym (run .ensures) ∙ ap answerOf (c .before .a .given .1) in
     (rw e, (rw e, rw e))
 
 returns-2 : tie.Need-returns-2
 returns-2 c =
     let run = c .before .before .before .run in
-    let e = sym (run .ensures) ∙ c .before .a2 .given .1 in
+    let e = sym (run .ensures) ∙ ap answerOf (c .before .a2 .given .1) in
     (rw e, (rw e, rw e))
 
 pub celery-run-spec : {M : Type 1} → statement M

@@ -1,11 +1,11 @@
 -- `listing::norm::worst_norm` meets its contract: each return is the first cause met, or the norm (`Answers`). Assumes nothing.
-use mathlib.Core.Path.{_≡_, sym, _∙_}
+use mathlib.Core.Path.{_≡_, sym, ap, _∙_}
 use native.Mathlib.Omega.{arith}
 use borrow.Author.Tests.{eqb-true, not-true, not-false}
 use lib.Dec.{eqb}
 use lib.ListN.{length}
 use Rattle.plan.specs.Causes.{first}
-use Rattle.plan.specs.Numbers.{columns, checked}
+use Rattle.plan.specs.Numbers.{columns, answerOf, checked}
 use Rattle.plan.specs.Parts.{partCauses}
 use Rattle.plan.specs.declared.numbers.Checked.the-variants.{Accepted, Refused}
 use Rattle.plan.proofs.Bounds.{prime-low}
@@ -26,13 +26,13 @@ enum-known-plan c = search needs
 
 refused : (c : tie.After-k) →
     let args = c .before .before .before .before .before .before .before .args in
-    checked (args .p) (args .s) (args .n) (args .m) (args .t) ≡ Refused (c .k .given .0 .0)
-refused c = sym (c .before .before .new .ensures) ∙ c .k .given .1
+    checked (args .p) (args .s) (args .n) (args .m) (args .t) ≡ answerOf (Refused (c .k .given .0 .0))
+refused c = sym (c .before .before .new .ensures) ∙ ap answerOf (c .k .given .1)
 
 accepted : (c : tie.After-plan) →
     let args = c .before .before .before .before .before .before .before .args in
-    checked (args .p) (args .s) (args .n) (args .m) (args .t) ≡ Accepted (c .plan .given .0 .0)
-accepted c = sym (c .before .before .new .ensures) ∙ c .plan .given .1
+    checked (args .p) (args .s) (args .n) (args .m) (args .t) ≡ answerOf (Accepted (c .plan .given .0 .0))
+accepted c = sym (c .before .before .new .ensures) ∙ ap answerOf (c .plan .given .1)
 
 -- the parts' refusal, with β's length against the plan's columns
 parts : (c : tie.After-part-refusal) →

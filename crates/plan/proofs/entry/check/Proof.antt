@@ -1,9 +1,9 @@
 -- `plan::entry::check` meets its contract: the constructor's refusal, or the parts' where it has none. Assumes nothing.
-use mathlib.Core.Path.{_≡_, sym, _∙_}
+use mathlib.Core.Path.{_≡_, sym, ap, _∙_}
 use Prim.Native.Nat.{ℕ, zero, suc, _<_}
 use native.Mathlib.Omega.{arith}
 use borrow.Author.Needs.{needs}
-use Rattle.plan.specs.Numbers.{checked}
+use Rattle.plan.specs.Numbers.{answerOf, checked}
 use Rattle.plan.specs.declared.numbers.Checked.the-variants.{Accepted, Refused}
 use Rattle.plan.proofs.Refusals.{call-within, call-numbers, call-parts, call-passed}
 use Rattle.plan.proofs.entry.check.Statement.{statement}
@@ -11,13 +11,13 @@ use Rattle.plan.proofs.entry.check.Tie as tie
 
 refused : (c : tie.After-k) →
     let args = c .before .before .before .before .before .before .args in
-    checked (args .p) (args .s) (args .n) (args .m) (args .t) ≡ Refused (c .k .given .0 .0)
-refused c = sym (c .before .before .new .ensures) ∙ c .k .given .1
+    checked (args .p) (args .s) (args .n) (args .m) (args .t) ≡ answerOf (Refused (c .k .given .0 .0))
+refused c = sym (c .before .before .new .ensures) ∙ ap answerOf (c .k .given .1)
 
 accepted : (c : tie.After-plan) →
     let args = c .before .before .before .before .before .before .args in
-    checked (args .p) (args .s) (args .n) (args .m) (args .t) ≡ Accepted (c .plan .given .0 .0)
-accepted c = sym (c .before .before .new .ensures) ∙ c .plan .given .1
+    checked (args .p) (args .s) (args .n) (args .m) (args .t) ≡ answerOf (Accepted (c .plan .given .0 .0))
+accepted c = sym (c .before .before .new .ensures) ∙ ap answerOf (c .plan .given .1)
 
 -- a refusal that is 0 passes on to the call's own causes, of which there are none
 decided : (k : ℕ) {x y : ℕ} → k ≡ x → (0 < k → k ≡ y) → (0 ≡ x → y ≡ 0) → k ≡ y

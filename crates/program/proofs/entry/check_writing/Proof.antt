@@ -1,6 +1,6 @@
 -- `program::entry::check_writing` meets its contract: the constructor's refusal, or the checked plan's. Assumes nothing.
-use mathlib.Core.Path.{_≡_, sym, _∙_}
-use Rattle.plan.specs.Numbers.{checked}
+use mathlib.Core.Path.{_≡_, sym, ap, _∙_}
+use Rattle.plan.specs.Numbers.{answerOf, checked}
 use Rattle.plan.specs.declared.numbers.Checked.the-variants.{Accepted, Refused}
 use Rattle.plan.proofs.Refusals.{call-within}
 use Rattle.program.proofs.Answers.{write-numbers, write-checked}
@@ -11,11 +11,11 @@ use Rattle.program.proofs.entry.check_writing.Tie as tie
 abbrev start : tie.After-new → tie.Start
 start c = c .before .before .before .before .before .before
 
-refused : (c : tie.After-k) → let a = start (c .before .before) .args in checked (a .p) (a .s) (a .n) (a .m) (a .t) ≡ Refused (c .k .given .0 .0)
-refused c = sym (c .before .before .new .ensures) ∙ c .k .given .1
+refused : (c : tie.After-k) → let a = start (c .before .before) .args in checked (a .p) (a .s) (a .n) (a .m) (a .t) ≡ answerOf (Refused (c .k .given .0 .0))
+refused c = sym (c .before .before .new .ensures) ∙ ap answerOf (c .k .given .1)
 
-accepted : (c : tie.After-plan) → let a = start (c .before .before) .args in checked (a .p) (a .s) (a .n) (a .m) (a .t) ≡ Accepted (c .plan .given .0 .0)
-accepted c = sym (c .before .before .new .ensures) ∙ c .plan .given .1
+accepted : (c : tie.After-plan) → let a = start (c .before .before) .args in checked (a .p) (a .s) (a .n) (a .m) (a .t) ≡ answerOf (Accepted (c .plan .given .0 .0))
+accepted c = sym (c .before .before .new .ensures) ∙ ap answerOf (c .plan .given .1)
 
 new-requires : tie.Need-new-requires
 new-requires c κs = search needs

@@ -1,14 +1,15 @@
 -- `program::entry::run` meets its contract: each return is the first cause met, or the run's answer (`Answers`). Assumes nothing.
 use mathlib.Core.Path.{_≡_, sym, ap, _∙_}
+use mathlib.Core.List.{[], _∷_}
 use native.Mathlib.Nat.{pos-of-ne-zero}
 use native.Mathlib.Omega.{arith}
 use borrow.Author.Tests.{eqb-true, not-true, not-false}
-use Rattle.plan.specs.Numbers.{checked}
+use Rattle.plan.specs.Causes.{gives}
+use Rattle.plan.specs.Numbers.{answerOf, checked}
 use Rattle.plan.specs.declared.numbers.Plan.{Plan}
 use Rattle.plan.specs.declared.numbers.Checked.the-variants.{Accepted, Refused}
 use Rattle.plan.proofs.Refusals.{call-plan, call-within, lent-of}
 use Rattle.program.specs.Steps.{output, bootstraps}
-use Rattle.program.specs.declared.running.Ran.the-variants.{Done}
 use Rattle.program.proofs.Answers.{run-numbers, run-parts, run-eleven, run-twelve, run-done, digit-residues}
 use borrow.Author.Needs.{needs}
 use Rattle.program.proofs.entry.run.Statement.{statement}
@@ -17,11 +18,11 @@ use Rattle.program.proofs.entry.run.Tie as tie
 abbrev start : tie.After-new → tie.Start
 start c = c .before .before .before .before .before .before
 
-refused : (c : tie.After-k) → let a = start (c .before .before) .args in checked (a .p) (a .s) (a .n) (a .m) (a .t) ≡ Refused (c .k .given .0 .0)
-refused c = sym (c .before .before .new .ensures) ∙ c .k .given .1
+refused : (c : tie.After-k) → let a = start (c .before .before) .args in checked (a .p) (a .s) (a .n) (a .m) (a .t) ≡ answerOf (Refused (c .k .given .0 .0))
+refused c = sym (c .before .before .new .ensures) ∙ ap answerOf (c .k .given .1)
 
-accepted : (c : tie.After-plan) → let a = start (c .before .before) .args in checked (a .p) (a .s) (a .n) (a .m) (a .t) ≡ Accepted (c .plan .given .0 .0)
-accepted c = sym (c .before .before .new .ensures) ∙ c .plan .given .1
+accepted : (c : tie.After-plan) → let a = start (c .before .before) .args in checked (a .p) (a .s) (a .n) (a .m) (a .t) ≡ answerOf (Accepted (c .plan .given .0 .0))
+accepted c = sym (c .before .before .new .ensures) ∙ ap answerOf (c .plan .given .1)
 
 new-requires : tie.Need-new-requires
 new-requires c κs = search needs
@@ -38,7 +39,7 @@ part-refusal-requires c κs = call-within _ _ _ _ _ (accepted (c .before .before
 returns : tie.Need-returns
 returns c =
     let r = c .before .before .before .before in
-    run-parts _ _ _ _ _ _ _ _ _ _ _ _ _ (accepted r) _ (c .before .part-refusal .ensures) (pos-of-ne-zero (c .if1 .taken))
+    run-parts _ _ _ _ _ _ _ _ _ _ _ _ (accepted r) _ (c .before .part-refusal .ensures) (pos-of-ne-zero (c .if1 .taken))
 
 well-formed-requires : tie.Need-well-formed-requires
 well-formed-requires c κs =
@@ -49,7 +50,7 @@ returns-2 : tie.Need-returns-2
 returns-2 c =
     let part-refusal = c .before .before .before .part-refusal in
     let r = c .before .before .before .before .before .before in
-    run-eleven _ _ _ _ _ _ _ _ _ _ _ _ _ (accepted r) (sym (c .before .before .if1 .left) ∙ part-refusal .ensures) (sym (c .before .well-formed .ensures) ∙ not-true _ (c .if2 .taken))
+    run-eleven _ _ _ _ _ _ _ _ _ _ _ _ (accepted r) (sym (c .before .before .if1 .left) ∙ part-refusal .ensures) (sym (c .before .well-formed .ensures) ∙ not-true _ (c .if2 .taken))
 
 all-below-requires : tie.Need-all-below-requires
 all-below-requires c κs =
@@ -62,7 +63,7 @@ returns-3 c =
     let part-refusal = c .before .before .before .before .before .part-refusal in
     let well-formed = c .before .before .before .well-formed in
     let r = c .before .before .before .before .before .before .before .before in
-    run-twelve _ _ _ _ _ _ _ _ _ _ _ _ _ (accepted r) (sym (if1 .left) ∙ part-refusal .ensures) (sym (well-formed .ensures) ∙ not-false _ (c .before .before .if2 .left)) (sym (c .before .all-below .ensures) ∙ not-true _ (c .if3 .taken))
+    run-twelve _ _ _ _ _ _ _ _ _ _ _ _ (accepted r) (sym (if1 .left) ∙ part-refusal .ensures) (sym (well-formed .ensures) ∙ not-false _ (c .before .before .if2 .left)) (sym (c .before .all-below .ensures) ∙ not-true _ (c .if3 .taken))
 
 run-steps-requires : tie.Need-run-steps-requires
 run-steps-requires c κs =
@@ -77,7 +78,7 @@ run-steps-requires c κs =
     (within, ((lent .0 .tables-length, lent .0 .tables-residues), (sym (well-formed .ensures) ∙ not-false _ (c .before .before .if2 .left), (eqb-true _ _ (lent .1), digit-residues (plan .given .0 .0) (args .digits .now) within (sym (c .before .all-below .ensures) ∙ not-false _ (c .if3 .left))))))
 
 returns-4 : tie.Need-returns-4
-returns-4 c = run-numbers _ _ _ _ _ _ _ _ _ _ _ _ _ (refused (c .before))
+returns-4 c = run-numbers _ _ _ _ _ _ _ _ _ _ _ _ (refused (c .before))
 
 returns-5 : tie.Need-returns-5
 returns-5 c =
@@ -88,8 +89,8 @@ returns-5 c =
     let if2 = c .before .before .before .if2 in
     let r = c .before .before .before .before .before .before .before .before .before in
     let a = args in
-    c .run-steps .ensures ∙ ap (λ (P : Plan). Done (output P (a .tables .now) (a .steps .now) (a .digits .now)) (bootstraps (a .steps .now))) (sym (call-plan _ _ _ _ _ (accepted r)))
-    ∙ run-done _ _ _ _ _ _ _ _ _ _ _ _ _ (accepted r) (sym (if1 .left) ∙ part-refusal .ensures) (sym (well-formed .ensures) ∙ not-false _ (if2 .left)) (sym (c .before .before .all-below .ensures) ∙ not-false _ (c .before .if3 .left))
+    c .run-steps .ensures ∙ ap (λ (P : Plan). gives (output P (a .tables .now) (a .steps .now) (a .digits .now) ∷ bootstraps (a .steps .now) ∷ [])) (sym (call-plan _ _ _ _ _ (accepted r)))
+    ∙ run-done _ _ _ _ _ _ _ _ _ _ _ _ (accepted r) (sym (if1 .left) ∙ part-refusal .ensures) (sym (well-formed .ensures) ∙ not-false _ (if2 .left)) (sym (c .before .before .all-below .ensures) ∙ not-false _ (c .before .if3 .left))
 
 pub run-spec : {M : Type 1} → statement M
 run-spec =

@@ -1,8 +1,8 @@
 -- `program::entry::write_into` meets its contract: each return is the first cause met, and only the last one has written. Assumes nothing.
-use mathlib.Core.Path.{_≡_, sym, _∙_}
+use mathlib.Core.Path.{_≡_, sym, ap, _∙_}
 use native.Mathlib.Nat.{pos-of-ne-zero}
 use native.Mathlib.Omega.{arith}
-use Rattle.plan.specs.Numbers.{checked}
+use Rattle.plan.specs.Numbers.{answerOf, checked}
 use Rattle.plan.specs.declared.numbers.Checked.the-variants.{Accepted, Refused}
 use Rattle.plan.proofs.Refusals.{call-plan, call-within}
 use Rattle.program.proofs.Answers.{writing-accepted, write-numbers, write-checked, written-refused, written-done}
@@ -14,11 +14,11 @@ use Rattle.program.proofs.entry.write_into.Tie as tie
 abbrev start : tie.After-new → tie.Start
 start c = c .before .before .before .before .before .before
 
-refused : (c : tie.After-k) → let a = start (c .before .before) .args in checked (a .p) (a .s) (a .n) (a .m) (a .t) ≡ Refused (c .k .given .0 .0)
-refused c = sym (c .before .before .new .ensures) ∙ c .k .given .1
+refused : (c : tie.After-k) → let a = start (c .before .before) .args in checked (a .p) (a .s) (a .n) (a .m) (a .t) ≡ answerOf (Refused (c .k .given .0 .0))
+refused c = sym (c .before .before .new .ensures) ∙ ap answerOf (c .k .given .1)
 
-accepted : (c : tie.After-plan) → let a = start (c .before .before) .args in checked (a .p) (a .s) (a .n) (a .m) (a .t) ≡ Accepted (c .plan .given .0 .0)
-accepted c = sym (c .before .before .new .ensures) ∙ c .plan .given .1
+accepted : (c : tie.After-plan) → let a = start (c .before .before) .args in checked (a .p) (a .s) (a .n) (a .m) (a .t) ≡ answerOf (Accepted (c .plan .given .0 .0))
+accepted c = sym (c .before .before .new .ensures) ∙ ap answerOf (c .plan .given .1)
 
 new-requires : tie.Need-new-requires
 new-requires c κs = search needs

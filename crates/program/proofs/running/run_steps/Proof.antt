@@ -1,13 +1,15 @@
 -- `program::running::run_steps` meets its contract: before each step the state is that of the definition (`Running` of `Interpreting`),
 -- and each arm is one of its turns. Assumes nothing.
 use mathlib.Core.Path.{ap₂, _∙_}
-use Prim.Native.Nat.{_-_, _/_, _<_}
+use mathlib.Core.List.{[], _∷_}
+use Prim.Native.Nat.{ℕ, _-_, _/_, _<_}
 use native.Mathlib.Nat.{mod-lt}
 use native.Mathlib.Omega.{arith}
 use lib.ListN.{length}
+use Rattle.plan.specs.Causes.{gives}
 use Rattle.plan.proofs.Bounds.{modulus, prime-low, prime-high}
 use Rattle.program.specs.Steps.{kindOf, toOf, fromOf, byOf}
-use Rattle.program.specs.declared.running.Ran.the-variants.{Done}
+use Rattle.program.specs.Calls.{answerOf}
 use Rattle.program.proofs.Interpreting.{StepFacts, step-at, small-inverse, table-small, Running, running-none, running-clear, running-add, running-boot, running-count, running-all}
 use Rattle.program.proofs.running.run_steps.Statement.{statement}
 use Rattle.program.proofs.running.run_steps.Tie as tie
@@ -191,7 +193,7 @@ returns : tie.Need-returns Inv-loop μ-loop
 returns c =
     let loop = c .before .before .before .loop in
     let r = running-all _ _ _ _ (loop .inv) (c .before .before .loop-test .left) in
-    ap₂ Done (r .0) (r .1)
+    ap₂ (λ (y count : ℕ). gives (y ∷ count ∷ [])) (r .0) (r .1)
 
 pub run-steps-spec : {M : Type 1} → statement M
 run-steps-spec =

@@ -10,7 +10,7 @@ use lib.ListN.{length}
 use borrow.Author.Tests.{eqb-true, le-ltb, lt-ltb, not-true, not-false}
 use borrow.Author.Needs.{needs}
 use Rattle.plan.specs.Causes.{first}
-use Rattle.plan.specs.Numbers.{columns, checked}
+use Rattle.plan.specs.Numbers.{columns, answerOf, checked}
 use Rattle.plan.specs.Parts.{partCauses}
 use Rattle.plan.specs.declared.numbers.Checked.the-variants.{Accepted, Refused}
 use Rattle.plan.proofs.Bounds.{modulus}
@@ -32,13 +32,13 @@ enum-known-plan c = search needs
 
 refused : (c : tie.After-k) →
     let args = c .before .before .before .before .before .before .before .args in
-    checked (args .p) (args .s) (args .n) (args .m) (args .t) ≡ Refused (c .k .given .0 .0)
-refused c = sym (c .before .before .new .ensures) ∙ c .k .given .1
+    checked (args .p) (args .s) (args .n) (args .m) (args .t) ≡ answerOf (Refused (c .k .given .0 .0))
+refused c = sym (c .before .before .new .ensures) ∙ ap answerOf (c .k .given .1)
 
 accepted : (c : tie.After-plan) →
     let args = c .before .before .before .before .before .before .before .args in
-    checked (args .p) (args .s) (args .n) (args .m) (args .t) ≡ Accepted (c .plan .given .0 .0)
-accepted c = sym (c .before .before .new .ensures) ∙ c .plan .given .1
+    checked (args .p) (args .s) (args .n) (args .m) (args .t) ≡ answerOf (Accepted (c .plan .given .0 .0))
+accepted c = sym (c .before .before .new .ensures) ∙ ap answerOf (c .plan .given .1)
 
 columns-requires : tie.Need-columns-requires
 columns-requires c κs = call-within _ _ _ _ _ (accepted (c .before))
@@ -177,7 +177,7 @@ returns-6 c =
     let near = rw (entries .ensures) at (if3 .left) in
     let within = call-within _ _ _ _ _ (accepted r1) in
     let lent = lent-of _ _ _ _ _ within (sym (parts r2) ∙ if1 .left) in
-    filed-call _ _ _ _ _ _ _ _ _ _ _ (call-plan _ _ _ _ _ (accepted r1)) (eqb-true _ _ (lent .1))
+    filed-call _ _ _ _ _ _ _ _ _ (c .before .before .file-entry .result) _ (call-plan _ _ _ _ _ (accepted r1)) (eqb-true _ _ (lent .1))
     (call-passed _ _ _ _ _ _ _ _ _ _ _ (accepted r1) (sym (if1 .left) ∙ parts r2) ∙ rw (passing r3, lt-ltb _ _ near, lt-ltb _ _ (if4 .left)))
     (c .before .before .file-entry .ensures .0) (c .before .before .file-entry .ensures .1)
 
