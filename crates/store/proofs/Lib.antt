@@ -13,6 +13,8 @@ pub mod ReadingOff
 pub mod Contradictions
 pub mod Implications
 pub mod Uniqueness
+pub mod Spans
+pub mod FilingSpans
 pub mod Zeros
 pub mod Pasting
 pub mod OneReading

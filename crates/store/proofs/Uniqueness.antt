@@ -1,75 +1,50 @@
 -- Two reduced stores with the same solutions are the same.
---     Within             every row of S leaves no residual in S′
+--     Within             every row of S is the sum of its coefficients times the rows of S′
 --     same-within        if every solution of S′ solves S, S is within S′
 --     meets              within S′, a row of S with a 1 in its own column agrees with that row of S′ at each column to which no other row adds
 --     pivot-stays        a pivot of S is a pivot of S′
 --     zero-stays         with S′ within S too, a zero row of S is a zero row of S′
 --     reduced-unique     the theorem, place by place
 --     stores-equal       the theorem, byte for byte
--- A row of S is satisfied by every solution of S′, so S′ implies it and its residual is zero: the row is the sum of its coefficients times
--- the rows of S′. In column q of row q, rows above q add nothing, since row q of S is zero left of q, and rows below q add nothing, since they
--- begin right of q; so S and S′ have the same pivots. Then no row but q adds anything to row q.
+-- A row of S is satisfied by every solution of S′, so it is the sum of its coefficients times the rows of S′. In column q of row q, rows
+-- above q add nothing, since row q of S is zero left of q, and rows below q add nothing, since they begin right of q; so S and S′ have the
+-- same pivots. Then no row but q adds anything to row q.
 -- Assumes nothing.
-use mathlib.Core.Path.{_≡_, refl, sym, ap, _∙_}
+use mathlib.Core.Path.{_≡_, sym, ap, _∙_}
 use mathlib.Core.Bool.{true}
 use mathlib.Core.Logic.{_⊎_, inl, inr, ⊎-elim, ⊎-map, _↔_, _≢_}
 use mathlib.Core.List.{List}
-use Prim.Native.Nat.{ℕ, _+_, _-_, _*_, _%_, _≤_, _<_}
-use native.Mathlib.Nat.{le-of-lt, mod-mod, mod-eq-of-lt, mul-mod-right, mul-zero, sub-zero}
+use Prim.Native.Nat.{ℕ, _+_, _*_, _%_, _≤_, _<_}
+use native.Mathlib.Nat.{le-of-lt, zero-mul, mul-zero, one-mul}
 use native.Mathlib.Decide.{decLt}
 use native.Mathlib.Omega.{arith}
 use lib.ListN.{length}
 use Rattle.lists.specs.Places.{sum, at}
 use Rattle.field.specs.Primes.{oddPrime}
 use Rattle.field.specs.Residues.{Residues}
-use Rattle.field.proofs.PrimeTable.{oddPrime-means}
-use Rattle.field.proofs.Modular.{cong-of, cong-add, cong-residue, sum-cong}
-use Rattle.store.specs.Elimination.{Solves, ZeroRow, Pivot, Reduced, residual, cells}
+use Rattle.field.proofs.Modular.{cong-residue}
+use Rattle.store.specs.Elimination.{Solves, ZeroRow, Pivot, Reduced, cells}
 use Rattle.store.proofs.Bytes.{flat-cells, flat-ext}
 use Rattle.lists.proofs.Sums.{sum-only}
 use Rattle.store.proofs.ReducedForm.{off-pivot}
-use Rattle.store.proofs.Answers.{implied-zero}
-use Rattle.store.proofs.Implications.{implied-exactly}
-
--- modulo p, a sum whose terms vanish but one is that term
-sum-only-cong : (p : ℕ) (f : ℕ → ℕ) (n i : ℕ) → i < n → ((j : ℕ) → j < n → j ≢ i → f j % p ≡ 0) → sum f n % p ≡ f i % p
-sum-only-cong p f n i l h =
-    sum-cong p f (λ j. f j % p) n (λ j k. sym (mod-mod (f j) p)) ∙ ap (λ (m : ℕ). m % p) (sum-only (λ j. f j % p) n i l h) ∙ mod-mod (f i) p
-
--- a - y leaves nothing: a is y
-difference : (k a y : ℕ) → (a + k * y) % (k + 1) ≡ 0 % (k + 1) → a % (k + 1) ≡ y % (k + 1)
-difference k a y h =
-    cong-of (k + 1) a (a + k * y + y) y 0 (omega arith) ∙ cong-add (k + 1) (a + k * y) 0 y y h refl ∙ ap (λ (n : ℕ). n % (k + 1)) (omega arith)
+use Rattle.store.proofs.Implications.{implied-sum}
 
 abbrev Within : ℕ → ℕ → (ℕ → ℕ → ℕ) → (ℕ → ℕ → ℕ) → Type 0
-Within p C S S′ = (q j : ℕ) → q < C → j ≤ C → residual p C S′ (S q) j ≡ 0
+Within p C S S′ = (q j : ℕ) → q < C → j ≤ C → S q j % p ≡ sum (λ r. S q r * S′ r j) C % p
 
 module _ (p C : ℕ) (prime : oddPrime p ≡ true) (S S′ : ℕ → ℕ → ℕ) (red : Reduced p C S) (red′ : Reduced p C S′) where
   same-within : ((β : List ℕ) → length β ≡ C → Residues p β → Solves p C S′ (at β) → Solves p C S (at β)) → Within p C S S′
-  same-within h q j l =
-      implied-zero p C S′ (S q)
-      (implied-exactly p C prime S′ (S q) red′ (λ i k. red .residues q i l k) .1 (λ β n r s. h β n r s q l)) j
+  same-within h q j l = implied-sum p C prime S′ (S q) red′ (λ i k. red .residues q i l k) (λ β n r s. h β n r s q l) j
 
   meets : Within p C S S′ → (q j : ℕ) → q < C → j ≤ C → S q q ≡ 1
       → ((r : ℕ) → r < C → r ≢ q → (S q r ≡ 0) ⊎ (S′ r j ≡ 0)) → S q j ≡ S′ q j
-  unfolding residual
-  meets w q j l k one off = cong-residue p (red .residues q j l k) (red′ .residues q j l k) (rw e at (difference (p - 1) (S q j) (S′ q j) (rw e zero)))
+  meets w q j l k one off =
+      cong-residue p (red .residues q j l k) (red′ .residues q j l k)
+      (w q j l k ∙ ap (λ (n : ℕ). n % p) (sum-only (λ r. S q r * S′ r j) C q l (λ r i d. nothing r (off r i d)) ∙ rw one (one-mul (S′ q j))))
     where
-      three : 3 ≤ p
-      three = oddPrime-means p .0 prime .0
-
-      e : p - 1 + 1 ≡ p
-      e = omega (arith, three)
-
-      nothing : (r : ℕ) → (S q r ≡ 0) ⊎ (S′ r j ≡ 0) → ((p - S q r) * S′ r j) % p ≡ 0
-      nothing r (inl z) = rw (z, sub-zero p) (mul-mod-right p (S′ r j))
-      nothing r (inr z) = rw (z, mul-zero (p - S q r)) (mod-eq-of-lt (omega (arith, three)))
-
-      added : sum (λ r. (p - S q r) * S′ r j) C % p ≡ ((p - 1) * S′ q j) % p
-      added = sum-only-cong p (λ r. (p - S q r) * S′ r j) C q l (λ r i d. nothing r (off r i d)) ∙ rw one
-
-      zero : (S q j + (p - 1) * S′ q j) % p ≡ 0 % p
-      zero = cong-add p (S q j) (S q j) _ _ refl (sym added) ∙ w q j l k ∙ sym (mod-eq-of-lt (omega (arith, three)))
+      nothing : (r : ℕ) → (S q r ≡ 0) ⊎ (S′ r j ≡ 0) → S q r * S′ r j ≡ 0
+      nothing r (inl z) = rw z (zero-mul (S′ r j))
+      nothing r (inr z) = rw z (mul-zero (S q r))
 
   pivot-stays : Within p C S S′ → (q : ℕ) → q < C → Pivot C S q → Pivot C S′ q
   pivot-stays w q l v = ⊎-elim (λ z. absurd (apart z)) (λ v′. v′) (red′ .rows q l)

@@ -10,26 +10,21 @@
 --     answerOf a                 01's number and values for each case of filing's answer: the pivot column of `New`, none of `Implied`, the refusal's number
 --     valuesOf o                 the values that an outcome gives
 --     answered o                 the answer by its outcome o alone, where no cause before 9 is met
---     filed                      the store after filing
---     Spans .. S′                S′ is in reduced form, and spans the same equations as the old store and the entry
---     OneReduced                 the store after filing is the one that does
+--     filed                      the store after filing; what it spans is said by `Span`
 --     fileAnswer, fileStore      what `file` answers, and the store it leaves
 --     coefficients C store       the coefficients read off: "coefficient q is the right-hand side of row q"
-use mathlib.Core.Path.{_≡_}
 use mathlib.Core.Bool.{Bool, cond, not, _&&_}
-use mathlib.Core.Logic.{_↔_}
 use mathlib.Core.List.{List, [], _∷_, _++_}
 use Prim.Native.Nat.{ℕ, _+_, _*_}
 use lib.Dec.{eqb, ltb}
 use lib.ListN.{length, replicate}
 use Rattle.lists.specs.Places.{tab, at}
-use Rattle.field.specs.Residues.{Residues}
 use Rattle.plan.specs.declared.numbers.Plan.{Plan}
 use Rattle.plan.specs.Numbers.{columns, plan}
 use Rattle.plan.specs.Causes.{first, result, Answer, gives, refuses, answer}
 use Rattle.plan.specs.Parts.{callCauses}
 use Rattle.plan.specs.Rows.{row, entryCause}
-use Rattle.store.specs.Elimination.{Satisfies, Solves, Reduced, Outcome, new, implied, contradiction, isReduced, outcome, after, readOff, cells, flat}
+use Rattle.store.specs.Elimination.{Outcome, new, implied, contradiction, isReduced, outcome, after, readOff, cells, flat}
 use Rattle.store.specs.Filings.{isContradiction}
 use Rattle.store.specs.declared.elimination.Filed.{Filed}
 use Rattle.store.specs.declared.elimination.Filed.the-variants.{New, Implied, Refused}
@@ -82,21 +77,6 @@ answered o = answer (cond (isContradiction o) 9 0) (valuesOf o)
 unfoldable pub filed : Plan → List ℕ → List ℕ → List ℕ → List ℕ → ℕ → ℕ → List ℕ
 filed P w T d store i v =
     flat (columns P) (after (P .p) (columns P) (cells (columns P) store) (equation P w T d i v))
-
--- "After it the store is the one reduced form whose rows span the same equations as the old store and the entry." The span is told by the
--- solutions, the lists of C residues that satisfy each equation. A store in reduced form has one, and an equation that all of them satisfy
--- is a sum of multiples of its rows (`Implications.implied-exactly`, `Answers.implied-zero`): so where there is no contradiction, the same
--- solutions mean the same span.
-pub record Spans (P : Plan) (w T d S : List ℕ) (i v : ℕ) (S′ : List ℕ) : Type 0 where
-  pub places : length S′ ≡ columns P * (columns P + 1)
-  pub reduced : Reduced (P .p) (columns P) (cells (columns P) S′)
-  pub solved : (β : List ℕ) → length β ≡ columns P → Residues (P .p) β
-      → Solves (P .p) (columns P) (cells (columns P) S′) (at β)
-      ↔ (Solves (P .p) (columns P) (cells (columns P) S) (at β) × Satisfies (P .p) (columns P) (equation P w T d i v) (at β))
-
-pub record OneReduced (P : Plan) (w T d S : List ℕ) (i v : ℕ) : Type 0 where
-  pub spans : Spans P w T d S i v (filed P w T d S i v)
-  pub one : (S′ : List ℕ) → Spans P w T d S i v S′ → S′ ≡ filed P w T d S i v
 
 unfoldable pub coefficients : ℕ → List ℕ → List ℕ
 coefficients C store = tab C (readOff C (cells C store))
