@@ -5,8 +5,9 @@
  * to meet its contract. It works in the clear: it files tables under plans and
  * writes programs of sums and bootstraps; encryption, keys, noise and the
  * search for plans are the host's. It allocates nothing, keeps nothing between
- * calls, and calls on different buffers may run at the same time. Link with
- * -lcelerycrag; it needs nothing but the C library.
+ * calls, and calls may run at the same time where none writes what another is
+ * lent. The archive is for x86-64 Linux. Link with -lcelerycrag; it needs
+ * nothing but the C library.
  *
  *
  * THE PLAN
@@ -36,11 +37,20 @@
  *
  * WHAT IS LENT
  *
- * A part is a pointer and a length, counted in its own elements, and must be as
- * long as is said. Pointers are never null, also where the length is 0: any
- * other address will do there. What a call writes must overlap nothing else
- * that it is lent. Beyond that any number, length and byte may be lent: the
- * library tests all of them, and reads and writes nothing outside a part.
+ * A part is a pointer and a length, counted in its own elements. So many
+ * elements must be there, aligned for their type and initialised, also where
+ * the call only writes them. Where the length is 0 any pointer will do, a null
+ * pointer too: an empty part is NULL and 0 in C, data() and size() of an empty
+ * std::vector in C++. Nothing is read or written through it.
+ *
+ * A single number that a call writes (column, written, y, bootstraps, norm) is
+ * lent by a pointer that is never null, also where the call is refused. The
+ * number there must be aligned for its type and initialised.
+ *
+ * What a call writes must overlap nothing else that it is lent, and nothing
+ * else may write to what it is lent until it returns. Parts that are only read
+ * may overlap. Beyond that any number, length and byte may be lent: the library
+ * tests all of them, and reads and writes nothing outside what it is lent.
  *
  *
  * REFUSALS
@@ -54,7 +64,11 @@
  * COST
  *
  * Each call tests the plan first, which reads its parts once: less than 19,000
- * bytes under every plan. The cost given with a call is what comes on top.
+ * bytes under every plan. The cost given with a call is what comes on top where
+ * it is accepted: passes over what is lent, multiplications, each with the
+ * reduction of its product by a reciprocal of p where there is one, and
+ * divisions. What is done once for each digit, link, product or row is left
+ * out.
  */
 #ifndef CELERYCRAG_H
 #define CELERYCRAG_H
@@ -85,7 +99,8 @@ enum celery_refusal {
 
 /*
  * Lengths under a plan whose numbers pass the causes 1 to 3. They are constant
- * where the numbers are, so arrays can be declared with them.
+ * where the numbers are, so arrays can be declared with them, but for a length
+ * that is 0: of weights and tables without links, of d without products.
  */
 #define CELERY_VARIABLES(n, m) ((n) + (m))
 #define CELERY_COLUMNS(n, m, t) (((t) + 1) * CELERY_VARIABLES(n, m))
@@ -124,7 +139,8 @@ uint8_t celery_check(CELERY_PLAN);
  * Lent:    entry, any number; row, C bytes, whose old values do not matter.
  * Causes:  1 2 3 4 5, 7.
  * Writes:  all of row.
- * Cost:    one multiplication for each link weight, two for each byte of d.
+ * Cost:    one multiplication for each link weight, one for each byte of d, and
+ *          one for each byte of row, those of the last L too.
  */
 uint8_t celery_row(CELERY_PLAN, size_t entry, uint8_t *row, size_t row_len);
 
@@ -137,24 +153,24 @@ uint8_t celery_row(CELERY_PLAN, size_t entry, uint8_t *row, size_t row_len);
  * Lent:    store, C (C + 1) bytes.
  * Causes:  1 2 3 4 5, 6.
  * Writes:  nothing.
- * Cost:    reads the store once.
+ * Cost:    one pass over the store.
  */
 uint8_t celery_test(CELERY_PLAN, const uint8_t *store, size_t store_len);
 
 /*
  * Files an entry with its value: accepted, the entry is kept, and the store is
  * afterwards the one reduced form whose rows span the same equations as the
- * old store and the entry. It is refused with 9 exactly when no beta
- * reproduces it together with all that the store holds.
+ * old store and the entry. Where no other cause is met, it is refused with 9
+ * exactly when no beta reproduces it together with all that the store holds.
  *
  * Lent:    store, C (C + 1) bytes; entry and value, any numbers; column.
  * Causes:  1 2 3 4 5, 6, 7, 8, 9.
  * Writes:  *column: the column of the new row's pivot where the entry was new
  *          to the store, and C, which is no column, where the store implied
  *          it. The store, where the entry was new; else it keeps its bytes.
- * Cost:    celery_test and celery_row, then about C^2 multiplications to
- *          compare the entry with the store, and as many again where it is
- *          new.
+ * Cost:    celery_test and celery_row, then at most about C^2 / 2
+ *          multiplications to compare the entry with the store, and at most
+ *          about C^2 / 4 more where it is new.
  */
 uint8_t celery_file(CELERY_PLAN, uint8_t *store, size_t store_len,
                     size_t entry, size_t value, size_t *column);
@@ -167,7 +183,7 @@ uint8_t celery_file(CELERY_PLAN, uint8_t *store, size_t store_len,
  *          matter.
  * Causes:  1 2 3 4 5, 6.
  * Writes:  all of beta.
- * Cost:    celery_test, then C bytes.
+ * Cost:    celery_test, then a copy of C bytes.
  */
 uint8_t celery_coefficients(CELERY_PLAN, const uint8_t *store, size_t store_len,
                             uint8_t *beta, size_t beta_len);
@@ -203,7 +219,8 @@ uint8_t celery_check_writing(CELERY_PLAN, const uint8_t *beta, size_t beta_len,
  * Causes:  1 2 3 4 5, 10.
  * Writes:  *written: 4 times the step count. As many numbers at the beginning
  *          of steps; the rest keeps its values.
- * Cost:    reads beta once, then writes each number once.
+ * Cost:    reads beta twice, weights and d once more, and writes each number
+ *          once.
  */
 uint8_t celery_write(CELERY_PLAN, const uint8_t *beta, size_t beta_len,
                      uint16_t *steps, size_t steps_len, size_t *written);
@@ -221,7 +238,10 @@ uint8_t celery_write(CELERY_PLAN, const uint8_t *beta, size_t beta_len,
  * Causes:  1 2 3 4 5, 11, 12.
  * Writes:  *y: register y after the last step. *bootstraps: the number of
  *          kind 2 steps carried out.
- * Cost:    reads the list twice; one multiplication a step.
+ * Cost:    reads the list twice. Once, at most 16 multiplications for the
+ *          inverse of 4. A step of kind 1 is one multiplication; a bootstrap
+ *          by a link's table reads it at one place, one by table m or m+1 is
+ *          two multiplications and a division.
  */
 uint8_t celery_run(CELERY_PLAN, const uint16_t *steps, size_t steps_len,
                    const uint8_t *digits, size_t digits_len,
@@ -235,7 +255,8 @@ uint8_t celery_run(CELERY_PLAN, const uint16_t *steps, size_t steps_len,
  * Lent:    beta, C bytes below p; norm.
  * Causes:  1 2 3 4 5.
  * Writes:  *norm.
- * Cost:    one multiplication for each weight and coefficient.
+ * Cost:    reads beta once to test it; then one multiplication for each link
+ *          weight, each byte of d and each coefficient.
  */
 uint8_t celery_worst_norm(CELERY_PLAN, const uint8_t *beta, size_t beta_len,
                           size_t *norm);

@@ -3,10 +3,10 @@
 //!
 //! A [`Plan`] is a small odd prime, a chain of one-input tables fed by weighted
 //! sums (links), and the fixed halves of some products. A [`Store`] files the
-//! entries of a table under a plan, one by one, and refuses an entry exactly
-//! when no coefficients reproduce it together with all kept before. From the
-//! coefficients read off, a [`Program`] of sums and bootstraps is written; run
-//! on the digits of a kept entry it yields the kept value.
+//! entries of a table under a plan, one by one, and refuses an entry and a value
+//! in range exactly when no coefficients reproduce them together with all kept
+//! before. From the coefficients read off, a [`Program`] of sums and bootstraps
+//! is written; run on the digits of a kept entry it yields the kept value.
 //!
 //! All of it is in the clear: encryption, keys, noise and the search for plans
 //! are the host's.
@@ -52,7 +52,8 @@
 //!
 //! The build script links `libcelerycrag.a` from the directory that the
 //! environment variable `CELERYCRAG_LIB_DIR` names, else from
-//! `target/staticlib` at the root of the repository.
+//! `target/staticlib` at the root of the repository. `rt staticlib celerycrag`,
+//! run there, proves the library and puts the archive in that place.
 
 #![warn(missing_docs)]
 

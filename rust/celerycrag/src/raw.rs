@@ -33,10 +33,11 @@ pub struct Lent<'a> {
 /// Calls into the library with the plan first.
 //
 // SAFETY, for each use: every pointer comes from a slice or a reference and
-// goes with that slice's own length, so the memory is there, aligned and not
-// null, and what is lent to be written is lent by `&mut`, so nothing overlaps
-// it. The library reads and writes nothing beyond the lengths, whatever the
-// numbers say; that is proved of it.
+// goes with that slice's own length, so the memory is there, aligned,
+// initialised and not null, and what is lent to be written is lent by `&mut`,
+// so nothing overlaps it. That is all the header asks. The library reads and
+// writes nothing beyond the lengths, whatever the numbers say; that is proved
+// of it.
 macro_rules! call {
     ($name:ident, $plan:expr $(, $own:expr)*) => {{
         let plan = $plan;
