@@ -76,6 +76,7 @@ fn defer_short(acc: &mut [u32], short: &mut [u16], store: &[u8], e: &[u8], c: us
     requires { ⌜ now acc ≡ tab (c + 1) (λ _. 0) ⌝ }
     requires { ⌜ now short ≡ tab (c + 1) (λ _. 0) ⌝ }
     ensures { λ _. ⌜ now (acc .exit) ≡ tab (c + 1) (deferred p (cells c (now (store .entry))) (at (now (e .entry))) c) ⌝ }
+    ensures { λ _. ⌜ now (short .exit) ≡ tab (c + 1) (λ _. 0) ⌝ }
 {
     field::accumulate(acc, e, 1);
     let rows = 65535 / ((p as u32) * (p as u32));

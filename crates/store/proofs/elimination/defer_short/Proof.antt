@@ -1,23 +1,17 @@
 -- `store::elimination::defer_short` meets its contract: row after row is subtracted from e, in 16 bits while there is room (`Deferring`).
 -- Assumes nothing.
 use mathlib.Core.Path.{sym, ap, _∙_}
-use Prim.Native.Nat.{_+_, _-_, _*_, _<_}
+use Prim.Native.Nat.{ℕ, _+_, _-_, _*_, _<_}
 use native.Mathlib.Nat.{le-of-lt, mul-le-mul}
 use native.Mathlib.Omega.{arith}
 use lib.ListN.{length}
+use Rattle.lists.specs.Places.{tab}
 use Rattle.lists.proofs.Tabs.{tab-length}
 use Rattle.lists.proofs.Parts.{part-length}
 use Rattle.store.proofs.Pasting.{tail-end, tail-length}
 use Rattle.store.proofs.Deferring.{Held, zeros-at, rows-fit, held-none, held-room, held-small, held-fits, held-next, held-all}
 use Rattle.store.proofs.elimination.defer_short.Statement.{statement}
 use Rattle.store.proofs.elimination.defer_short.Tie as tie
-use Rattle.store.proofs.elimination.defer_short.Reads as reads
-use Rattle.store.proofs.elimination.defer_short.Lts as lts
-use Rattle.field.proofs.accumulate.Reads as accumulate-reads
-use Rattle.field.proofs.accumulate_short.Reads as accumulate-short-reads
-use Rattle.field.proofs.pour.Reads as pour-reads
-use Rattle.store.proofs.elimination.factor.Reads as factor-reads
-use Rattle.store.proofs.elimination.make_room.Reads as make-room-reads
 
 abbrev Inv-loop : tie.InvT-loop
 Inv-loop acc₀ short₀ store e c p rows width left₀ begin₀ q₀ acc short left begin q = Held p c store e q begin left acc short × (0 < rows) × (rows * (p * p) < 65536)
@@ -25,7 +19,6 @@ Inv-loop acc₀ short₀ store e c p rows width left₀ begin₀ q₀ acc short 
 abbrev μ-loop : tie.MeasureT-loop
 μ-loop acc₀ short₀ store e c p rows width left₀ begin₀ q₀ acc short left begin q = c - q
 
--- src/elimination.rt:80:5
 -- the state when there is room for a row more
 held : (c : tie.After-make-room Inv-loop μ-loop) →
     let args = c .before .before .before .before .before .before .before .before .before .before .before .before .before .args in
@@ -42,23 +35,19 @@ accumulate-requires c κs =
     let z = pre .1 .1 .0 in
     (pre .1 .0 .places ∙ sym (ap length z ∙ tab-length (args .c + 1) (λ _. 0)), λ i. omega (arith, zeros-at (args .c + 1) _ z i))
 
--- src/elimination.rt:81:25
 mul-rows : tie.Need-mul-rows Inv-loop μ-loop
 mul-rows c =
     let pre = c .before .before .before .before .before .before .before .before .pre in
     omega (arith, mul-le-mul (pre .0 .modulus .1) (pre .0 .modulus .1))
 
--- src/elimination.rt:81:16
 div-rows : tie.Need-div-rows Inv-loop μ-loop
 div-rows c =
     let pre = c .before .before .before .before .before .before .before .before .pre in
     omega (arith, mul-le-mul (pre .0 .modulus .0) (pre .0 .modulus .0))
 
--- src/elimination.rt:82:17
 add-width : tie.Need-add-width Inv-loop μ-loop
 add-width c = omega arith
 
--- src/elimination.rt:86:5
 loop-holds : tie.Need-loop-holds Inv-loop μ-loop
 loop-holds c =
     let args = c .before .before .before .before .before .before .before .before .args in
@@ -66,14 +55,12 @@ loop-holds c =
     let r = rows-fit (args .p) (pre .0 .modulus) in
     (held-none _ _ _ _ _ _ _ _ (pre .1 .1 .0) (c .before .before .accumulate .ensures) (pre .1 .1 .1) (r .1), r .0, r .1)
 
--- src/elimination.rt:87:9
 make-room-requires : tie.Need-make-room-requires Inv-loop μ-loop
 make-room-requires c κs =
     let loop = c .before .before .before .loop in
     let pre = c .before .before .before .before .before .before .before .before .before .before .before .before .pre in
     (loop .inv .0 .narrow ∙ sym (loop .inv .0 .wide), held-small _ _ _ _ (loop .inv .0) (pre .0) (pre .1 .0))
 
--- src/elimination.rt:88:17
 add-a : tie.Need-add-a Inv-loop μ-loop
 add-a c =
     let args = c .before .before .before .before .before .before .before .before .before .before .before .before .before .before .before .before .before .args in
@@ -81,7 +68,6 @@ add-a c =
     let pre = c .before .before .before .before .before .before .before .before .before .before .before .before .before .before .before .before .before .pre in
     omega (arith, tail-end (args .c) (args .store .now) (loop .q) (loop .q) (loop .begin) (pre .0 .places) (c .before .before .before .before .before .before .before .loop-test .taken) (le-of-lt (c .before .before .before .before .before .before .before .loop-test .taken)) (loop .inv .0 .both .begins))
 
--- src/elimination.rt:89:19
 add-end : tie.Need-add-end Inv-loop μ-loop
 add-end c =
     let args = c .before .before .before .before .before .before .before .before .before .before .before .before .before .before .before .before .before .args in
@@ -89,13 +75,11 @@ add-end c =
     let pre = c .before .before .before .before .before .before .before .before .before .before .before .before .before .before .before .before .before .pre in
     omega (arith, tail-end (args .c) (args .store .now) (loop .q) (loop .q) (loop .begin) (pre .0 .places) (c .before .before .before .before .before .before .before .loop-test .taken) (le-of-lt (c .before .before .before .before .before .before .before .loop-test .taken)) (loop .inv .0 .both .begins))
 
--- src/elimination.rt:90:24
 shared-slice-read-factor : tie.Need-shared-slice-read-factor Inv-loop μ-loop
 shared-slice-read-factor c =
     let pre = c .before .before .before .before .before .before .before .before .before .before .before .before .before .before .before .before .before .before .pre in
     omega (arith, pre .1 .0 .places)
 
--- src/elimination.rt:90:30
 shared-slice-read-factor-2 : tie.Need-shared-slice-read-factor-2 Inv-loop μ-loop
 shared-slice-read-factor-2 c =
     let args = c .before .before .before .before .before .before .before .before .before .before .before .before .before .before .before .before .before .before .before .args in
@@ -103,40 +87,32 @@ shared-slice-read-factor-2 c =
     let pre = c .before .before .before .before .before .before .before .before .before .before .before .before .before .before .before .before .before .before .before .pre in
     omega (arith, tail-end (args .c) (args .store .now) (loop .q) (loop .q) (loop .begin) (pre .0 .places) (c .before .before .before .before .before .before .before .before .before .loop-test .taken) (le-of-lt (c .before .before .before .before .before .before .before .before .before .loop-test .taken)) (loop .inv .0 .both .begins))
 
--- src/elimination.rt:90:13
 factor-requires : tie.Need-factor-requires Inv-loop μ-loop
 factor-requires c κs =
     let pre = c .before .before .before .before .before .before .before .before .before .before .before .before .before .before .before .before .before .before .before .pre in
     let loop = c .before .before .before .before .before .before .before .before .before .before .loop in
     pre .1 .0 .residues (loop .q)
 
--- src/elimination.rt:91:33
 mul-accumulate-short : tie.Need-mul-accumulate-short Inv-loop μ-loop
 mul-accumulate-short c = omega arith
 
--- src/elimination.rt:91:33
 sub-accumulate-short : tie.Need-sub-accumulate-short Inv-loop μ-loop
 sub-accumulate-short c = omega arith
 
--- src/elimination.rt:91:33
 part-accumulate-short-start : tie.Need-part-accumulate-short-start Inv-loop μ-loop
 part-accumulate-short-start c = omega arith
 
--- src/elimination.rt:91:33
 part-accumulate-short-end : tie.Need-part-accumulate-short-end Inv-loop μ-loop
 part-accumulate-short-end c =
     let r = c .before .before .before .before .before .before .before in
     omega (arith, held r .0 .narrow)
 
--- src/elimination.rt:91:55
 sub-accumulate-short-2 : tie.Need-sub-accumulate-short-2 Inv-loop μ-loop
 sub-accumulate-short-2 c = omega arith
 
--- src/elimination.rt:91:55
 part-accumulate-short-start-2 : tie.Need-part-accumulate-short-start-2 Inv-loop μ-loop
 part-accumulate-short-start-2 c = omega arith
 
--- src/elimination.rt:91:55
 part-accumulate-short-end-2 : tie.Need-part-accumulate-short-end-2 Inv-loop μ-loop
 part-accumulate-short-end-2 c =
     let args = c .before .before .before .before .before .before .before .before .before .before .before .before .before .before .before .before .before .before .before .before .before .args in
@@ -144,7 +120,6 @@ part-accumulate-short-end-2 c =
     let pre = c .before .before .before .before .before .before .before .before .before .before .before .before .before .before .before .before .before .before .before .before .before .pre in
     tail-end (args .c) (args .store .now) (loop .q) (loop .q) (loop .begin) (pre .0 .places) (c .before .before .before .before .before .before .before .before .before .before .before .loop-test .taken) (le-of-lt (c .before .before .before .before .before .before .before .before .before .before .before .loop-test .taken)) (loop .inv .0 .both .begins)
 
--- src/elimination.rt:91:9
 accumulate-short-requires : tie.Need-accumulate-short-requires Inv-loop μ-loop
 accumulate-short-requires c κs =
     let args = c .before .before .before .before .before .before .before .before .before .before .before .before .before .before .before .before .before .before .before .before .before .before .args in
@@ -157,21 +132,17 @@ accumulate-short-requires c κs =
       held-fits _ _ _ _ (w .0) (pre .0) (pre .1 .0) l _ (c .before .before .factor .ensures) (w .1),
     )
 
--- src/elimination.rt:92:9
 sub-left : tie.Need-sub-left Inv-loop μ-loop
 sub-left c =
     let r = c .before .before .before .before .before .before .before .before .before .before .before .before in
     omega (arith, held r .1)
 
--- src/elimination.rt:94:9
 add-q : tie.Need-add-q Inv-loop μ-loop
 add-q c = omega arith
 
--- src/elimination.rt:86:5
 loop-less : tie.Need-loop-less Inv-loop μ-loop
 loop-less c = omega arith
 
--- src/elimination.rt:86:5
 loop-again : tie.Need-loop-again Inv-loop μ-loop
 loop-again c =
     let pre = c .before .before .before .before .before .before .before .before .before .before .before .before .before .before .before .before .before .before .before .before .before .before .before .before .before .pre in
@@ -181,14 +152,12 @@ loop-again c =
     let w = held r in
     (held-next _ _ _ _ (w .0) (pre .0) (pre .1 .0) (c .before .before .before .before .before .before .before .before .before .before .before .before .before .before .before .loop-test .taken) _ (factor .ensures) (w .1) _ (c .before .before .accumulate-short .ensures), loop .inv .1, loop .inv .2)
 
--- src/elimination.rt:96:5
 pour-requires : tie.Need-pour-requires Inv-loop μ-loop
 pour-requires c κs =
     let loop = c .before .before .before .loop in
     let pre = c .before .before .before .before .before .before .before .before .before .before .before .before .pre in
     (loop .inv .0 .narrow ∙ sym (loop .inv .0 .wide), held-small _ _ _ _ (loop .inv .0) (pre .0) (pre .1 .0))
 
--- src/elimination.rt:73:1
 same-length : tie.Need-same-length Inv-loop μ-loop
 same-length c =
     let pour = c .before .before .before .before .pour in
@@ -197,7 +166,6 @@ same-length c =
     let args = c .before .before .before .before .before .before .before .before .before .before .before .before .before .before .before .before .before .args in
     ap length (pour .ensures .0) ∙ tab-length _ _ ∙ loop .inv .0 .wide ∙ sym (ap length (pre .1 .1 .0) ∙ tab-length (args .c + 1) (λ _. 0))
 
--- src/elimination.rt:73:1
 same-length-2 : tie.Need-same-length-2 Inv-loop μ-loop
 same-length-2 c =
     let pour = c .before .before .before .before .pour in
@@ -206,12 +174,13 @@ same-length-2 c =
     let args = c .before .before .before .before .before .before .before .before .before .before .before .before .before .before .before .before .before .args in
     ap length (pour .ensures .1) ∙ tab-length _ _ ∙ loop .inv .0 .narrow ∙ sym (ap length (pre .1 .1 .1) ∙ tab-length (args .c + 1) (λ _. 0))
 
--- src/elimination.rt:73:1
 returns : tie.Need-returns Inv-loop μ-loop
 returns c =
     let loop = c .before .before .before .before .before .before .before .before .loop in
-    let pour = c .before .before .before .before .pour in
-    held-all _ _ _ _ (loop .inv .0) (c .before .before .before .before .before .before .before .loop-test .left) _ (pour .ensures .0)
+    let pour = c .before .before .before .before .pour in (
+      held-all _ _ _ _ (loop .inv .0) (c .before .before .before .before .before .before .before .loop-test .left) _ (pour .ensures .0),
+      pour .ensures .1 ∙ ap (λ (n : ℕ). tab n (λ _. 0)) (loop .inv .0 .narrow),
+    )
 
 pub defer-short-spec : {M : Type 1} → statement M
 defer-short-spec =
