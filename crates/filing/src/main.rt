@@ -2,21 +2,27 @@
 //
 // Holds `main` alone, with the buffers and the loop over standard input: here bytes are only moved, `text` judges and prints (`start`,
 // `feed`, `finish`). Nothing is printed before the text has ended, and where standard input cannot be read to its end, only standard error
-// is written to. Stands on `text`, and on `io`, `libc` and `os` of the kit. Renders 01, "The filing program"; docs/FORMAT.md explains it to
-// users.
-ghost use Prim.Native.Nat.{_≤_};
+// is written to. `run` promises this of what was read and of the buffer that is printed (specs/Input.antt); that the system's calls delivered
+// the one and took the other no contract can say, and rust/celerycrag/tests/streams.rs looks. Stands on `text`, and on `io`, `libc` and `os`
+// of the kit. Renders 01, "The filing program"; docs/FORMAT.md explains it to users.
+ghost use mathlib.Core.Path.{_≡_};
+ghost use Prim.Native.Nat.{_≤_, _<_};
 ghost use lib.ListN.{length};
+ghost use Rattle.lists.specs.Places.{placed};
 ghost use Rattle.text.specs.Progress.{Fits, stateOf, Room};
 ghost use Rattle.text.specs.Sound.{SoundState};
+ghost use Rattle.text.specs.Streaming as streaming;
+ghost use Rattle.filing.specs.Input.{Fed, Ended, Printed};
 use text::State;
 
-// What was read, and whether the end of the input was not reached.
+// What was read: the state of the text, how many bytes of it came, and what the last read answered, 0 at the end of the input.
 struct Input {
     state: State,
-    is_cut: bool,
+    count: usize,
+    last: isize,
 }
 
-// Reads standard input to its end. A proved loop has to end, so its turns are counted down from 2^46, more than any input takes.
+// Reads standard input to its end. A proved loop has to end, so it stops at 2^62 bytes, more than any input has.
 fn read_all(
     chunk: &mut [u8],
     line: &mut [u8],
@@ -25,29 +31,25 @@ fn read_all(
     d: &mut [u8],
     store: &mut [u8],
 ) -> Input
-    requires { ⌜ (length (now chunk) ≤ 65536) × (1024 ≤ length (now line)) ⌝ }
+    requires { ⌜ (0 < length (now chunk)) × (length (now chunk) ≤ 65536) × (1024 ≤ length (now line)) ⌝ }
     requires { ⌜ Room (now weights) (now tables) (now d) (now store) ⌝ }
     ensures { λ r. ⌜ Fits (r .state .stage) × (r .state .held ≤ 1024) ⌝ }
-    ensures { λ r. ⌜ SoundState (stateOf (r .state) (now (line .exit)) (now (weights .exit)) (now (tables .exit)) (now (d .exit)) (now (store .exit))) ⌝ }
+    ensures { λ r. ⌜ Fed (stateOf (r .state) (now (line .exit)) (now (weights .exit)) (now (tables .exit)) (now (d .exit)) (now (store .exit))) (r .count) ⌝ }
+    ensures { λ r. ⌜ Ended (r .last) (r .count) ⌝ }
 {
     let mut state = text::start();
-    let mut is_cut = true;
-    let mut turns: usize = 70368744177664;
-    while turns > 0 {
-        let got = libc::read(libc::STDIN_FILENO, chunk);
-        let n = io::count(got, chunk);
+    let mut count: usize = 0;
+    let mut last: isize = 1;
+    while last > 0 && count < 4611686018427387904 {
+        last = libc::read(libc::STDIN_FILENO, chunk);
+        let n = io::count(last, chunk);
         state = text::feed(state, &chunk[..n], line, weights, tables, d, store);
-        if n == 0 {
-            is_cut = got < 0;
-            turns = 0;
-        } else {
-            turns -= 1;
-        }
+        count += n;
     }
-    Input { state, is_cut }
+    Input { state, count, last }
 }
 
-// Prints what a text that has ended gives.
+// Prints what a text that has ended gives: the front of `out`, which it is put into.
 fn print_end(
     state: State,
     line: &[u8],
@@ -63,6 +65,7 @@ fn print_end(
     requires { ⌜ 1024 ≤ length (now line) ⌝ }
     requires { ⌜ Room (now weights) (now tables) (now d) (now store) ⌝ }
     requires { ⌜ (20000 ≤ length (now steps)) × (131072 ≤ length (now out)) ⌝ }
+    ensures { λ _. ⌜ now (out .exit) ≡ placed (now (out .entry)) 0 (streaming.finish (stateOf state (now (line .entry)) (now (weights .entry)) (now (tables .entry)) (now (d .entry)) (now (store .entry)))) ⌝ }
 {
     let end = text::finish(state, line, weights, tables, d, store, steps, out);
     if !io::write_all(libc::STDOUT_FILENO, &out[..end]) {
@@ -70,7 +73,7 @@ fn print_end(
     }
 }
 
-// The whole run, over lent buffers.
+// The whole run, over lent buffers. Answers what was read.
 fn run(
     chunk: &mut [u8],
     line: &mut [u8],
@@ -80,18 +83,21 @@ fn run(
     store: &mut [u8],
     steps: &mut [u16],
     out: &mut [u8],
-)
-    requires { ⌜ (length (now chunk) ≤ 65536) × (1024 ≤ length (now line)) ⌝ }
+) -> Input
+    requires { ⌜ (0 < length (now chunk)) × (length (now chunk) ≤ 65536) × (1024 ≤ length (now line)) ⌝ }
     requires { ⌜ Room (now weights) (now tables) (now d) (now store) ⌝ }
     requires { ⌜ (20000 ≤ length (now steps)) × (131072 ≤ length (now out)) ⌝ }
+    ensures { λ r. ⌜ Printed (r .count) (r .last) (now (out .entry)) (now (out .exit)) ⌝ }
 {
     let input = read_all(chunk, line, weights, tables, d, store);
     let state = input.state;
-    if input.is_cut {
-        os::fail(b"standard input");
-    } else {
+    let last = input.last;
+    if last == 0 {
         print_end(state, line, weights, tables, d, store, steps, out);
+    } else {
+        os::fail(b"standard input");
     }
+    input
 }
 
 fn main() {

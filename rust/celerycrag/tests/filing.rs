@@ -1,16 +1,13 @@
 //! The filing program against the reference: the same bytes printed for texts
 //! in order and not, however the text comes in.
-//!
-//! The program is that of CELERYCRAG_FILING, else of target/bin at the root of
-//! the repository, where `rt check filing` puts it.
 
 mod common;
 use common::lots::pairs;
 use common::plans::{shape, Owned};
+use common::program::program;
 use common::random::{cases, Random};
 use common::tally::Tally;
 use common::texts::{spoil, text};
-use std::ffi::OsString;
 use std::fs;
 use std::io::{ErrorKind, Write};
 use std::path::{Path, PathBuf};
@@ -36,20 +33,12 @@ const LARGEST: [[usize; 5]; 9] = [
 
 /// The program, started, with pipes to and from it.
 fn start() -> Child {
-    let path = std::env::var_os("CELERYCRAG_FILING")
-        .unwrap_or_else(|| OsString::from(format!("{ROOT}/target/bin/filing")));
-    let pipes = Command::new(&path)
+    let pipes = Command::new(program())
         .stdin(Stdio::piped())
         .stdout(Stdio::piped())
         .stderr(Stdio::piped())
         .spawn();
-    pipes.unwrap_or_else(|error| {
-        panic!(
-            "no filing program at {}: {error}; build it with 'rt check filing', \
-             or set CELERYCRAG_FILING",
-            path.display()
-        )
-    })
+    pipes.expect("the program, started")
 }
 
 /// What the program prints for a text that comes in these pieces. It has to

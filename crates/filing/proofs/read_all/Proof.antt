@@ -1,35 +1,32 @@
--- `filing::read_all` meets its contract: each chunk is fed as it is read. The measure is the number of turns that are left. Assumes nothing.
+-- `filing::read_all` meets its contract: each chunk is fed as it is read. The measure is what may still be read. Assumes nothing.
+use mathlib.Core.Path.{sym, _∙_}
+use mathlib.Core.Bool.{false≢true}
+use Prim.Native.Nat.{_+_, _≤_, _<_}
 use native.Mathlib.Omega.{arith}
-use mathlib.Core.List.{List}
-use Prim.Native.Nat.{ℕ, _≤_}
-use lib.ListN.{length, take}
+use mir.Syntax.{w64}
+use mir.Val.{ofZ, toZ}
+use borrow.Author.Needs.{needs}
+use borrow.Author.Tests.{ltb-true, ltb-false}
 use Rattle.text.proofs.Turning.{room-kept}
-use Rattle.filing.proofs.Chunks.{Reading, reading-start, reading-part, reading-next}
+use Rattle.filing.specs.Input.{most}
+use Rattle.filing.proofs.Chunks.{Reading, reading-start, reading-next, left, left-less}
 use Rattle.filing.proofs.read_all.Statement.{statement}
 use Rattle.filing.proofs.read_all.Tie as tie
 
 abbrev Inv-loop : tie.InvT-loop
-Inv-loop chunk₀ line₀ weights₀ tables₀ d₀ store₀ state₀ is-cut₀ turns₀ chunk line weights tables d store state is-cut turns = Reading chunk₀ line₀ weights₀ tables₀ d₀ store₀ chunk line weights tables d store state turns
+Inv-loop chunk₀ line₀ weights₀ tables₀ d₀ store₀ state₀ count₀ last₀ chunk line weights tables d store state count last = Reading chunk₀ line₀ weights₀ tables₀ d₀ store₀ chunk line weights tables d store state count
 
 abbrev μ-loop : tie.MeasureT-loop
-μ-loop chunk₀ line₀ weights₀ tables₀ d₀ store₀ state₀ is-cut₀ turns₀ chunk line weights tables d store state is-cut turns = turns
+μ-loop chunk₀ line₀ weights₀ tables₀ d₀ store₀ state₀ count₀ last₀ chunk line weights tables d store state count last = left (toZ w64 last) count
 
--- the loop's record, and the bytes that were read
-abbrev looped : tie.After-count Inv-loop μ-loop → tie.At-loop Inv-loop μ-loop
-looped c = c .before .before .before .before .before .before .before
-
-abbrev start : tie.After-count Inv-loop μ-loop → tie.Start Inv-loop μ-loop
-start c = c .before .before .before .before .before .before .before .before .before .before .before .before .before .before .before
-
-abbrev part : tie.After-count Inv-loop μ-loop → List ℕ
-part c =
+-- there is room for the bytes of one read more
+few : (c : tie.After-count Inv-loop μ-loop) → c .before .before .before .before .before .before .before .before .loop .count + c .count .result ≤ most + 65536
+few c =
     let read = c .before .before .before .before .read in
-    take (c .count .result) (read .last .1 .0)
-
-small : (c : tie.After-count Inv-loop μ-loop) → length (part c) ≤ 65536
-small c =
-    let read = c .before .before .before .before .read in
-    reading-part (looped c .loop .inv) _ (read .last .1 .0) (part c) (start c .pre .0 .0) (read .kept .1 .0) (c .count .ensures .0)
+    let loop = c .before .before .before .before .before .before .before .before .loop in
+    let pre = c .before .before .before .before .before .before .before .before .before .before .before .before .before .before .before .before .pre in
+    let below : loop .count < most = ltb-true _ _ (c .before .before .before .before .before .before .if1 .taken) in
+    omega (arith, c .count .ensures .0 .0, read .kept .1 .0, loop .inv .chunk-same, pre .0 .1)
 
 start-requires : tie.Need-start-requires Inv-loop μ-loop
 start-requires c κs = tt
@@ -44,63 +41,87 @@ count-requires : tie.Need-count-requires Inv-loop μ-loop
 count-requires c κs = tt
 
 slice-reshare-prefix-feed : tie.Need-slice-reshare-prefix-feed Inv-loop μ-loop
-slice-reshare-prefix-feed c = c .count .ensures .0 .0
+slice-reshare-prefix-feed c = search needs
 
 slice-aggregate-feed : tie.Need-slice-aggregate-feed Inv-loop μ-loop
-slice-aggregate-feed c = c .before .count .ensures .0 .1
+slice-aggregate-feed c = search needs
 
 feed-requires : tie.Need-feed-requires Inv-loop μ-loop
 feed-requires c κs =
-    let loop = c .before .before .before .before .before .before .before .before .before .before .before .before .before .loop in
-    let pre = c .before .before .before .before .before .before .before .before .before .before .before .before .before .before .before .before .before .before .before .before .before .pre in
+    let reading = c .before .before .before .before .before .before .before .before .before .before .before .before .before .before .loop .inv in
+    let pre = c .before .before .before .before .before .before .before .before .before .before .before .before .before .before .before .before .before .before .before .before .before .before .pre in
+    let counted = c .before .before .before .before .before .before .count .ensures .0 .1 in
     let r = c .before .before .before .before .before .before in
-    (loop .inv .fits, ((loop .inv .held, omega (arith, loop .inv .line-same, pre .0 .1), omega (arith, loop .inv .number, small r)), room-kept (pre .1) (loop .inv .kept)))
+    (reading .fits, ((reading .held, omega (arith, reading .line-same, pre .0 .2), omega (arith, counted, reading .number, few r)), room-kept (pre .1) (reading .kept)))
+
+add-count : tie.Need-add-count Inv-loop μ-loop
+add-count c =
+    let r = c .before .before .before .before .before .before .before .before .before .before .before .before .before .before .before .before .before in
+    record { fits = omega (arith, few r) }
 
 loop-less : tie.Need-loop-less Inv-loop μ-loop
-loop-less c = omega arith
+loop-less c =
+    let count = c .before .before .before .before .before .before .before .before .before .before .before .before .before .before .before .before .before .count in
+    let read = c .before .before .before .before .before .before .before .before .before .before .before .before .before .before .before .before .before .before .before .before .before .read in
+    let below = c .before .before .before .before .before .before .before .before .before .before .before .before .before .before .before .before .before .before .before .before .before .before .before .if1 .taken in
+    let more = c .before .before .before .before .before .before .before .before .before .before .before .before .before .before .before .before .before .before .before .before .before .before .before .before .loop-test .taken in
+    let reading = c .before .before .before .before .before .before .before .before .before .before .before .before .before .before .before .before .before .before .before .before .before .before .before .before .before .loop .inv in
+    let pre = c .before .before .before .before .before .before .before .before .before .before .before .before .before .before .before .before .before .before .before .before .before .before .before .before .before .before .before .before .before .before .before .before .before .pre in
+    left-less _ (toZ w64 (ofZ w64 (read .result))) _ _ _ more (ltb-true _ _ below) (omega (arith, pre .0 .0, reading .chunk-same, read .kept .1 .0)) (count .ensures .1)
 
 loop-again : tie.Need-loop-again Inv-loop μ-loop
 loop-again c =
-    let loop = c .before .before .before .before .before .before .before .before .before .before .before .before .before .before .before .before .before .before .before .before .before .before .before .before .before .loop in
-    let feed = c .before .before .before .before .before .before .before .before .before .before .before .feed in
-    let read = c .before .before .before .before .before .before .before .before .before .before .before .before .before .before .before .before .before .before .before .before .before .before .read in
-    let r = c .before .before .before .before .before .before .before .before .before .before .before .before .before .before .before .before .before .before in
-    reading-next (loop .inv) _ (part r) _ _ _ _ _ _ _ (omega arith) (small r) (feed .ensures .0) (feed .ensures .1) (read .kept .1 .0) (feed .kept .1 .1 .0) (feed .kept .1 .1 .1)
-
-sub-turns : tie.Need-sub-turns Inv-loop μ-loop
-sub-turns c = omega arith
-
-loop-less-2 : tie.Need-loop-less-2 Inv-loop μ-loop
-loop-less-2 c = omega arith
-
-loop-again-2 : tie.Need-loop-again-2 Inv-loop μ-loop
-loop-again-2 c =
-    let loop = c .before .before .before .before .before .before .before .before .before .before .before .before .before .before .before .before .before .before .before .before .before .before .before .before .before .loop in
-    let feed = c .before .before .before .before .before .before .before .before .before .before .before .feed in
-    let read = c .before .before .before .before .before .before .before .before .before .before .before .before .before .before .before .before .before .before .before .before .before .before .read in
-    let r = c .before .before .before .before .before .before .before .before .before .before .before .before .before .before .before .before .before .before in
-    reading-next (loop .inv) _ (part r) _ _ _ _ _ _ _ (omega arith) (small r) (feed .ensures .0) (feed .ensures .1) (read .kept .1 .0) (feed .kept .1 .1 .0) (feed .kept .1 .1 .1)
+    let feed = c .before .before .before .before .before .before .before .before .before .before .feed in
+    let count = c .before .before .before .before .before .before .before .before .before .before .before .before .before .before .before .before .before .count in
+    let read = c .before .before .before .before .before .before .before .before .before .before .before .before .before .before .before .before .before .before .before .before .before .read in
+    let reading = c .before .before .before .before .before .before .before .before .before .before .before .before .before .before .before .before .before .before .before .before .before .before .before .before .before .loop .inv in
+    reading-next reading _ _ _ _ _ _ _ _ _ (count .ensures .0 .1) (feed .ensures .0) (feed .ensures .1) (read .kept .1 .0) (feed .kept .1 .1 .0) (feed .kept .1 .1 .1)
 
 same-length : tie.Need-same-length Inv-loop μ-loop
-same-length c = c .before .loop .inv .chunk-same
+same-length c = c .before .before .loop .inv .chunk-same
 
 same-length-2 : tie.Need-same-length-2 Inv-loop μ-loop
-same-length-2 c = c .before .loop .inv .line-same
+same-length-2 c = c .before .before .loop .inv .line-same
 
 same-length-3 : tie.Need-same-length-3 Inv-loop μ-loop
-same-length-3 c = c .before .loop .inv .kept .0
+same-length-3 c = c .before .before .loop .inv .kept .0
 
 same-length-4 : tie.Need-same-length-4 Inv-loop μ-loop
-same-length-4 c = c .before .loop .inv .kept .1 .0
+same-length-4 c = c .before .before .loop .inv .kept .1 .0
 
 same-length-5 : tie.Need-same-length-5 Inv-loop μ-loop
-same-length-5 c = c .before .loop .inv .kept .1 .1 .0
+same-length-5 c = c .before .before .loop .inv .kept .1 .1 .0
 
 same-length-6 : tie.Need-same-length-6 Inv-loop μ-loop
-same-length-6 c = c .before .loop .inv .kept .1 .1 .1 .0
+same-length-6 c = c .before .before .loop .inv .kept .1 .1 .1 .0
 
 returns : tie.Need-returns Inv-loop μ-loop
-returns c = ((c .before .loop .inv .fits, c .before .loop .inv .held), c .before .loop .inv .sound)
+returns c =
+    let reading = c .before .before .loop .inv in
+    ((reading .fits, reading .held), (reading .fed, (λ more. ltb-false _ _ (c .if1 .left))))
+
+same-length-7 : tie.Need-same-length-7 Inv-loop μ-loop
+same-length-7 c = c .before .loop .inv .chunk-same
+
+same-length-8 : tie.Need-same-length-8 Inv-loop μ-loop
+same-length-8 c = c .before .loop .inv .line-same
+
+same-length-9 : tie.Need-same-length-9 Inv-loop μ-loop
+same-length-9 c = c .before .loop .inv .kept .0
+
+same-length-10 : tie.Need-same-length-10 Inv-loop μ-loop
+same-length-10 c = c .before .loop .inv .kept .1 .0
+
+same-length-11 : tie.Need-same-length-11 Inv-loop μ-loop
+same-length-11 c = c .before .loop .inv .kept .1 .1 .0
+
+same-length-12 : tie.Need-same-length-12 Inv-loop μ-loop
+same-length-12 c = c .before .loop .inv .kept .1 .1 .1 .0
+
+returns-2 : tie.Need-returns-2 Inv-loop μ-loop
+returns-2 c =
+    let reading = c .before .loop .inv in
+    ((reading .fits, reading .held), (reading .fed, (λ more. absurd (false≢true (sym (c .loop-test .left) ∙ more)))))
 
 pub read-all-spec : {M : Type 1} → statement M
 read-all-spec =
@@ -115,15 +136,20 @@ read-all-spec =
     slice-reshare-prefix-feed
     slice-aggregate-feed
     feed-requires
+    add-count
     loop-less
     loop-again
-    sub-turns
-    loop-less-2
-    loop-again-2
     same-length
     same-length-2
     same-length-3
     same-length-4
     same-length-5
     same-length-6
-    returns)
+    returns
+    same-length-7
+    same-length-8
+    same-length-9
+    same-length-10
+    same-length-11
+    same-length-12
+    returns-2)

@@ -1,24 +1,25 @@
--- `filing::run` meets its contract. Assumes nothing.
+-- `filing::run` meets its contract: where the last read answered 0, what `finish` prints is the meaning of the bytes that were fed. Assumes nothing.
 use native.Mathlib.Omega.{arith}
 use Rattle.text.proofs.Turning.{room-kept}
 use borrow.Author.Needs.{needs}
+use Rattle.filing.proofs.Chunks.{fed-sound, printed-end, printed-none}
 use Rattle.filing.proofs.run.Statement.{statement}
 use Rattle.filing.proofs.run.Tie as tie
 
 read-all-requires : tie.Need-read-all-requires
 read-all-requires c κs = search needs
 
+print-end-requires : tie.Need-print-end-requires
+print-end-requires c κs =
+    let read-all = c .before .before .before .before .before .before .before .before .before .before .before .before .before .before .before .before .before .before .before .before .before .before .read-all in
+    let pre = c .before .before .before .before .before .before .before .before .before .before .before .before .before .before .before .before .before .before .before .before .before .before .before .before .before .before .before .before .before .before .before .before .before .before .before .before .before .pre in
+    (read-all .ensures .0, (fed-sound (read-all .ensures .1 .0), (omega (arith, pre .0 .2, read-all .kept .1 .0), (room-kept (pre .1 .0) (read-all .kept .1 .1), pre .1 .1))))
+
 slice-aggregate-fail : tie.Need-slice-aggregate-fail
 slice-aggregate-fail c = search needs
 
 fail-requires : tie.Need-fail-requires
 fail-requires c κs = search needs
-
-print-end-requires : tie.Need-print-end-requires
-print-end-requires c κs =
-    let read-all = c .before .before .before .before .before .before .before .before .before .before .before .before .before .before .before .before .before .before .before .before .before .read-all in
-    let pre = c .before .before .before .before .before .before .before .before .before .before .before .before .before .before .before .before .before .before .before .before .before .before .before .before .before .before .before .before .before .before .before .before .before .before .before .before .pre in
-    (read-all .ensures .0, (read-all .ensures .1, (omega (arith, pre .0 .1, read-all .kept .1 .0), (room-kept (pre .1 .0) (read-all .kept .1 .1), pre .1 .1))))
 
 same-length : tie.Need-same-length
 same-length c = search needs
@@ -38,14 +39,18 @@ same-length-5 c = search needs
 same-length-6 : tie.Need-same-length-6
 same-length-6 c = search needs
 
-returns : tie.Need-returns
-returns c = search needs
-
 same-length-7 : tie.Need-same-length-7
 same-length-7 c = search needs
 
 same-length-8 : tie.Need-same-length-8
 same-length-8 c = search needs
+
+returns : tie.Need-returns
+returns c =
+    let print-end = c .before .before .before .before .print-end in
+    let is-end = c .before .before .before .before .before .before .before .before .before .before .before .before .if1 .taken in
+    let read-all = c .before .before .before .before .before .before .before .before .before .before .before .before .before .before .before .before .before .before .before .before .before .before .before .before .before .before .before .read-all in
+    printed-end (read-all .ensures .1 .0) _ _ _ (search needs) is-end (print-end .ensures)
 
 same-length-9 : tie.Need-same-length-9
 same-length-9 c = search needs
@@ -66,25 +71,28 @@ same-length-14 : tie.Need-same-length-14
 same-length-14 c = search needs
 
 returns-2 : tie.Need-returns-2
-returns-2 c = search needs
+returns-2 c =
+    let not-end = c .before .before .if1 .left in
+    let read-all = c .before .before .before .before .before .before .before .before .before .before .before .before .before .before .before .before .before .read-all in
+    printed-none (read-all .ensures .1 .0) _ _ not-end
 
 pub run-spec : {M : Type 1} → statement M
 run-spec =
     tie.close
     (tie.spec
     read-all-requires
+    print-end-requires
     slice-aggregate-fail
     fail-requires
-    print-end-requires
     same-length
     same-length-2
     same-length-3
     same-length-4
     same-length-5
     same-length-6
-    returns
     same-length-7
     same-length-8
+    returns
     same-length-9
     same-length-10
     same-length-11

@@ -1,10 +1,11 @@
-//! What the tests share: random numbers, plans with parts of their own, and
-//! the calls made twice, on the library and on the reference.
+//! What the tests share: random numbers, plans with parts of their own, the
+//! calls made twice, on the library and on the reference, and the program.
 #![allow(dead_code)]
 
 pub mod faults;
 pub mod lots;
 pub mod plans;
+pub mod program;
 pub mod random;
 pub mod tally;
 pub mod texts;
