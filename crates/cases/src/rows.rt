@@ -1,5 +1,6 @@
 // Values of the parts, and rows.
 use crate::say;
+use crate::shown::next;
 
 // Checks the plan p=3 s=2 n=2 with one link and one product, each part given.
 fn given(weights: &[u8], tables: &[u8], d: &[u8]) -> u8 {
@@ -33,12 +34,6 @@ pub fn values() {
 // The XOR plan's row of an entry, into `row`.
 fn xor_row(entry: usize, row: &mut [u8]) -> u8 {
     plan::row(3, 2, 2, 0, 1, b"", b"", b"\x01\x01", entry, row)
-}
-
-// A number after a space.
-fn next(byte: u8) {
-    io::write_all(1, b" ");
-    io::print_decimal(1, byte as u64);
 }
 
 // The bytes of a row.

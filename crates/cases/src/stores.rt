@@ -2,7 +2,7 @@
 use crate::say;
 
 // What filing answered.
-fn answer(a: store::Filed) {
+pub fn answer(a: store::Filed) {
     match a {
         store::Filed::New(c) => {
             io::write_all(1, b"new ");
