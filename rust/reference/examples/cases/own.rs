@@ -118,7 +118,11 @@ fn lists(out: &mut Out) {
         ("three numbers", &[0; 3][..], &[1][..]),
         ("five numbers", &[0; 5], &[1]),
         ("six numbers", &[0; 6], &[1]),
-        ("a fault in the second step", &[1, 6, 0, 1, 3, 0, 0, 0], &[1]),
+        (
+            "a fault in the second step",
+            &[1, 6, 0, 1, 3, 0, 0, 0],
+            &[1],
+        ),
         ("digits too short", &[1, 6, 0, 1], &[]),
         ("digits too long", &[1, 6, 0, 1], &[1, 0]),
         ("a digit of s", &[1, 6, 0, 1], &[2]),

@@ -54,7 +54,8 @@ fn linked(out: &mut Out) {
     for entry in 0..4 {
         let mut row = [9; 3];
         out.say("linked entry", plan.row(entry, &mut row));
-        row.iter().for_each(|variable| out.say("variable", variable));
+        row.iter()
+            .for_each(|variable| out.say("variable", variable));
     }
 }
 

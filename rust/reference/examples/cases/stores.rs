@@ -22,7 +22,8 @@ fn xor(out: &mut Out) {
     }
     let mut beta = [9; 4];
     out.say("coefficients", XOR.coefficients(&store, &mut beta));
-    beta.iter().for_each(|coefficient| out.say("beta", coefficient));
+    beta.iter()
+        .for_each(|coefficient| out.say("beta", coefficient));
 }
 
 /// Stores that are reduced, and stores damaged in each way. The rows that are
