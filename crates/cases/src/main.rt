@@ -6,6 +6,7 @@ mod every;
 mod norms;
 mod orders;
 mod own;
+mod parts;
 mod programs;
 mod rows;
 mod shown;

@@ -1,5 +1,6 @@
 // The worst norm of plans in which each kind of row is the largest. Refusals are in every.rt, own.rt and orders.rt.
 use crate::calls;
+use crate::parts::front;
 use crate::shown::title;
 
 // Two links and two products: p=5 s=2 n=1, L=3. Rows are of 1 and 2 weights, of 3 in d, of 3 in beta. The tables, all fours, do not count.
@@ -18,154 +19,84 @@ fn two(name: &[u8], weights: &[u8], d: &[u8], beta: &[u8]) {
     );
 }
 
-// All rows alike, then one link row larger than all else, then both.
+// Link rows a and b c; all others have a norm of 2.
+fn link(name: &[u8], a: u8, b: u8, c: u8) {
+    let weights = [a, b, c];
+    two(
+        name,
+        &weights,
+        b"\x01\x00\x01\x00\x01\x01",
+        b"\x01\x01\x00\x00\x01\x01\x01\x00\x01",
+    );
+}
+
+// The d rows a b c and e f g; all others have a norm of at most 2.
+fn product(name: &[u8], a: u8, b: u8, c: u8, e: u8, f: u8, g: u8) {
+    let d = [a, b, c, e, f, g];
+    two(
+        name,
+        b"\x01\x01\x01",
+        &d,
+        b"\x01\x01\x00\x00\x01\x01\x01\x00\x01",
+    );
+}
+
+// The beta rows a b c, e f g and h i j; all others have a norm of at most 2.
+fn beta(name: &[u8], a: u8, b: u8, c: u8, e: u8, f: u8, g: u8, h: u8, i: u8, j: u8) {
+    let beta = [a, b, c, e, f, g, h, i, j];
+    two(name, b"\x01\x01\x01", b"\x01\x00\x01\x00\x01\x01", &beta);
+}
+
+// No row is large, then one link row is, then both.
 fn links() {
-    two(
-        b"all zero",
-        b"\x00\x00\x00",
-        b"\x00\x00\x00\x00\x00\x00",
-        b"\x00\x00\x00\x00\x00\x00\x00\x00\x00",
-    );
-    two(
-        b"no row above 2",
-        b"\x01\x01\x01",
-        b"\x01\x00\x01\x00\x01\x01",
-        b"\x01\x01\x00\x00\x01\x01\x01\x00\x01",
-    );
-    two(
-        b"the first link row",
-        b"\x04\x01\x01",
-        b"\x01\x00\x01\x00\x01\x01",
-        b"\x01\x01\x00\x00\x01\x01\x01\x00\x01",
-    );
-    two(
-        b"the second link row, first weight",
-        b"\x01\x04\x01",
-        b"\x01\x00\x01\x00\x01\x01",
-        b"\x01\x01\x00\x00\x01\x01\x01\x00\x01",
-    );
-    two(
-        b"the second link row, second weight",
-        b"\x01\x01\x03",
-        b"\x01\x00\x01\x00\x01\x01",
-        b"\x01\x01\x00\x00\x01\x01\x01\x00\x01",
-    );
-    two(
-        b"the first of two link rows",
-        b"\x04\x02\x03",
-        b"\x01\x00\x01\x00\x01\x01",
-        b"\x01\x01\x00\x00\x01\x01\x01\x00\x01",
-    );
-    two(
-        b"the second of two link rows",
-        b"\x03\x02\x04",
-        b"\x01\x00\x01\x00\x01\x01",
-        b"\x01\x01\x00\x00\x01\x01\x01\x00\x01",
-    );
+    link(b"no row above 2", 1, 1, 1);
+    link(b"the first link row", 4, 1, 1);
+    link(b"the second link row, first weight", 1, 4, 1);
+    link(b"the second link row, second weight", 1, 1, 3);
+    link(b"the first of two link rows", 4, 2, 3);
+    link(b"the second of two link rows", 3, 2, 4);
 }
 
-// One d row larger than all else, then both.
+// One d row is large, then both.
 fn products() {
-    two(
-        b"the first d row",
-        b"\x01\x01\x01",
-        b"\x02\x03\x01\x00\x01\x01",
-        b"\x01\x01\x00\x00\x01\x01\x01\x00\x01",
-    );
-    two(
-        b"the second d row",
-        b"\x01\x01\x01",
-        b"\x01\x00\x01\x03\x03\x01",
-        b"\x01\x01\x00\x00\x01\x01\x01\x00\x01",
-    );
-    two(
-        b"the first of two d rows",
-        b"\x01\x01\x01",
-        b"\x03\x03\x02\x03\x01\x03",
-        b"\x01\x01\x00\x00\x01\x01\x01\x00\x01",
-    );
-    two(
-        b"the second of two d rows",
-        b"\x01\x01\x01",
-        b"\x03\x01\x03\x03\x03\x03",
-        b"\x01\x01\x00\x00\x01\x01\x01\x00\x01",
-    );
+    product(b"the first d row", 2, 3, 1, 0, 1, 1);
+    product(b"the second d row", 1, 0, 1, 3, 3, 1);
+    product(b"the first of two d rows", 3, 3, 2, 3, 1, 3);
+    product(b"the second of two d rows", 3, 1, 3, 3, 3, 3);
 }
 
-// One beta row larger than all else, then several.
-fn coefficients() {
-    two(
-        b"the first beta row",
-        b"\x01\x01\x01",
-        b"\x01\x00\x01\x00\x01\x01",
-        b"\x02\x02\x01\x00\x01\x01\x01\x00\x01",
-    );
-    two(
-        b"the second beta row",
-        b"\x01\x01\x01",
-        b"\x01\x00\x01\x00\x01\x01",
-        b"\x01\x01\x00\x04\x01\x02\x01\x00\x01",
-    );
-    two(
-        b"the last beta row",
-        b"\x01\x01\x01",
-        b"\x01\x00\x01\x00\x01\x01",
-        b"\x01\x01\x00\x00\x01\x01\x03\x02\x04",
-    );
-    two(
-        b"the first of three beta rows",
-        b"\x01\x01\x01",
-        b"\x01\x00\x01\x00\x01\x01",
-        b"\x04\x04\x02\x04\x04\x01\x04\x03\x03",
-    );
-    two(
-        b"the second of three beta rows",
-        b"\x01\x01\x01",
-        b"\x01\x00\x01\x00\x01\x01",
-        b"\x04\x04\x01\x04\x04\x02\x04\x03\x03",
-    );
-    two(
-        b"the last of three beta rows",
-        b"\x01\x01\x01",
-        b"\x01\x00\x01\x00\x01\x01",
-        b"\x04\x03\x03\x04\x04\x01\x04\x04\x02",
-    );
-    two(
-        b"all fours",
-        b"\x04\x04\x04",
-        b"\x04\x04\x04\x04\x04\x04",
-        b"\x04\x04\x04\x04\x04\x04\x04\x04\x04",
-    );
+// One beta row is large, then all are.
+fn betas() {
+    beta(b"the first beta row", 2, 2, 1, 0, 1, 1, 1, 0, 1);
+    beta(b"the second beta row", 1, 1, 0, 4, 1, 2, 1, 0, 1);
+    beta(b"the last beta row", 1, 1, 0, 0, 1, 1, 3, 2, 4);
+    beta(b"the first of three beta rows", 4, 4, 2, 4, 4, 1, 4, 3, 3);
+    beta(b"the second of three beta rows", 4, 4, 1, 4, 4, 2, 4, 3, 3);
+    beta(b"the last of three beta rows", 4, 3, 3, 4, 4, 1, 4, 4, 2);
+}
+
+// A plan p s=2 n without links and products: the first n of the coefficients a and then b.
+fn bare(name: &[u8], p: usize, n: usize, a: u8, b: u8) {
+    let beta = [a, b, b, b, b, b, b, b, b, b, b, b];
+    title(name);
+    calls::norm(p, 2, n, 0, 0, b"", b"", b"", front(&beta, n));
 }
 
 // Plans without links, without products, without both; and a norm above 16 bits.
 fn without() {
-    title(b"no links and no products");
-    calls::norm(7, 2, 2, 0, 0, b"", b"", b"", b"\x03\x05");
-    title(b"no links and no products, all zero");
-    calls::norm(7, 2, 2, 0, 0, b"", b"", b"", b"\x00\x00");
+    bare(b"no links and no products", 7, 2, 3, 5);
+    bare(b"all zero", 7, 2, 0, 0);
+    bare(b"twelve coefficients of 250", 251, 12, 250, 250);
     title(b"no links");
     calls::norm(3, 2, 2, 0, 1, b"", b"", b"\x01\x01", b"\x00\x01\x01\x00");
     title(b"no products");
     calls::norm(3, 2, 1, 1, 0, b"\x02", b"\x01\x00\x00", b"", b"\x00\x01");
-    title(b"twelve coefficients of 250");
-    calls::norm(
-        251,
-        2,
-        12,
-        0,
-        0,
-        b"",
-        b"",
-        b"",
-        b"\xfa\xfa\xfa\xfa\xfa\xfa\xfa\xfa\xfa\xfa\xfa\xfa",
-    );
 }
 
 // Every plan.
 pub fn all() {
     links();
     products();
-    coefficients();
+    betas();
     without();
 }

@@ -18,7 +18,7 @@ pub fn ran(a: program::Ran) {
 }
 
 // The first k numbers of a list.
-fn front(steps: &[u16], k: usize) -> &[u16] {
+pub fn front(steps: &[u16], k: usize) -> &[u16] {
     if k <= steps.len() {
         return &steps[..k];
     }

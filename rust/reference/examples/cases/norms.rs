@@ -19,7 +19,6 @@ fn two(out: &mut Out, name: &str, weights: [u8; 3], d: [u8; 6], beta: [u8; 9]) {
 }
 
 fn links(out: &mut Out) {
-    two(out, "all zero", [0; 3], [0; 6], [0; 9]);
     for (name, weights) in [
         ("no row above 2", WEIGHTS),
         ("the first link row", [4, 1, 1]),
@@ -54,7 +53,6 @@ fn coefficients(out: &mut Out) {
     ] {
         two(out, name, WEIGHTS, D, beta);
     }
-    two(out, "all fours", [4; 3], [4; 6], [4; 9]);
 }
 
 /// Plans without links, without products, without both; a norm above 16 bits.
@@ -67,8 +65,9 @@ fn without(out: &mut Out) {
     };
     let neither = bare(7, 2, 0, 0);
     out.title("no links and no products").norm(neither, &[3, 5]);
-    out.title("no links and no products, all zero")
-        .norm(neither, &[0, 0]);
+    out.title("all zero").norm(neither, &[0, 0]);
+    out.title("twelve coefficients of 250")
+        .norm(bare(251, 12, 0, 0), &[250; 12]);
     let products = Plan {
         d: &[1, 1],
         ..bare(3, 2, 0, 1)
@@ -80,8 +79,6 @@ fn without(out: &mut Out) {
         ..bare(3, 1, 1, 0)
     };
     out.title("no products").norm(link, &[0, 1]);
-    out.title("twelve coefficients of 250")
-        .norm(bare(251, 12, 0, 0), &[250; 12]);
 }
 
 pub fn all(out: &mut Out) {

@@ -4,7 +4,7 @@
 
 use super::calls::{Out, Plan};
 use super::every::{d, BETA, SMALL};
-use super::own::one_row;
+use super::own::{one_row, FAULTY, STEPS};
 
 /// A d with a 3 in it: cause 5.
 const BAD: [u8; 2] = [1, 3];
@@ -68,8 +68,8 @@ fn plans(out: &mut Out) {
         (
             "3 and 5",
             [3, 5],
-            small(3, 2, 65, own, &BAD),
-            small(3, 2, 1, own, &BAD),
+            small(3, 2, 65, &[1, 2, 3], &GOOD),
+            small(3, 2, 1, &[1, 2, 3], &GOOD),
         ),
     ] {
         pair(out, name, causes, [both, righted], |out, plan| {
@@ -134,12 +134,11 @@ fn readings(out: &mut Out) {
             (GOOD, twos(19), 4),
             (GOOD, twos(20), 4),
         ),
-        ("5 and 6", [5, 6], (BAD, twos(20), 4), (GOOD, twos(20), 4)),
         (
             "4 of beta and 5",
             [4, 5],
-            (BAD, one_row(), 3),
-            (BAD, one_row(), 4),
+            (BAD, zeros(20), 3),
+            (BAD, zeros(20), 4),
         ),
         (
             "4 of beta and 6",
@@ -147,6 +146,7 @@ fn readings(out: &mut Out) {
             (GOOD, twos(20), 3),
             (GOOD, twos(20), 4),
         ),
+        ("5 and 6", [5, 6], (BAD, twos(20), 4), (GOOD, twos(20), 4)),
     ] {
         pair(
             out,
@@ -171,6 +171,12 @@ fn filings(out: &mut Out) {
             (BAD, zeros(20), 0, 0),
         ),
         (
+            "4 and 6",
+            [4, 6],
+            (GOOD, twos(19), 0, 0),
+            (GOOD, twos(20), 0, 0),
+        ),
+        (
             "4 and 7",
             [4, 7],
             (GOOD, zeros(19), 2, 0),
@@ -181,12 +187,6 @@ fn filings(out: &mut Out) {
             [4, 8],
             (GOOD, zeros(19), 0, 2),
             (GOOD, zeros(20), 0, 2),
-        ),
-        (
-            "4 and 6",
-            [4, 6],
-            (GOOD, twos(19), 0, 0),
-            (GOOD, twos(20), 0, 0),
         ),
         (
             "5 and 6",
@@ -264,7 +264,7 @@ const BETAS: [(&str, Lent, Lent); 3] = [
     ),
     (
         "4 of beta and 5 of beta",
-        (&GOOD, &[1, 2, 0, 1, 3]),
+        (&GOOD, &[1, 2, 0, 3, 3]),
         (&GOOD, &[1, 2, 0, 3]),
     ),
     (
@@ -274,10 +274,12 @@ const BETAS: [(&str, Lent, Lent); 3] = [
     ),
 ];
 
-fn writings(out: &mut Out) {
+fn betas(out: &mut Out) {
     for (name, both, righted) in BETAS {
         pair(out, name, [4, 5], [both, righted], |out, (b, beta)| {
-            out.writing(d(b), beta, 88)
+            let number = out.writing(d(b), beta, 88);
+            assert_eq!(out.norm(d(b), beta), number);
+            number
         });
     }
     let righted: Lent = (&GOOD, &BETA);
@@ -294,25 +296,16 @@ fn writings(out: &mut Out) {
     }
 }
 
-fn norms(out: &mut Out) {
-    for (name, both, righted) in BETAS {
-        pair(out, name, [4, 5], [both, righted], |out, (b, beta)| {
-            out.norm(d(b), beta)
-        });
-    }
-}
-
 fn runs(out: &mut Out) {
     type Lent = ([u8; 2], &'static [u16], &'static [u8]);
-    let good: &[u16] = &[1, 6, 0, 1];
-    let bad: &[u16] = &[3, 6, 0, 1];
+    let (good, bad): (&[u16], &[u16]) = (&STEPS, &FAULTY);
     let pairs: [(&str, [u32; 2], Lent, Lent); 7] = [
         ("4 and 5", [4, 5], (BAD, good, &[]), (BAD, good, &[1])),
         ("4 and 11", [4, 11], (GOOD, bad, &[]), (GOOD, bad, &[1])),
         (
             "4 and 12",
             [4, 12],
-            (GOOD, good, &[1, 2]),
+            (GOOD, good, &[2, 2]),
             (GOOD, good, &[2]),
         ),
         ("5 and 11", [5, 11], (BAD, bad, &[1]), (GOOD, bad, &[1])),
@@ -321,8 +314,8 @@ fn runs(out: &mut Out) {
         (
             "11 by the length and 12",
             [11, 12],
-            (GOOD, &[0; 5], &[2]),
-            (GOOD, &[0; 4], &[2]),
+            (GOOD, &STEPS[..5], &[2]),
+            (GOOD, &STEPS[..4], &[2]),
         ),
     ];
     for (name, causes, both, righted) in pairs {
@@ -343,7 +336,6 @@ pub fn all(out: &mut Out) {
     tests(out);
     readings(out);
     filings(out);
-    writings(out);
-    norms(out);
+    betas(out);
     runs(out);
 }

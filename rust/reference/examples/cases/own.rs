@@ -23,22 +23,23 @@ fn rows(out: &mut Out) {
     }
 }
 
-fn tests(out: &mut Out) {
-    out.title("store too short").test(SMALL, &[0; 19]);
-    out.title("store too long").test(SMALL, &[0; 21]);
-    out.title("store damaged").test(SMALL, &[2; 20]);
-    out.title("store of one row").test(SMALL, &one_row());
+/// Stores too short, too long, and damaged: all bytes alike.
+const STORES: [(&str, u8, usize); 3] = [
+    ("store too short", 0, 19),
+    ("store too long", 0, 21),
+    ("store damaged", 2, 20),
+];
+
+fn stores(out: &mut Out) {
+    for (name, byte, length) in STORES {
+        out.title(name).test(SMALL, &vec![byte; length]);
+    }
+    for (name, byte, length) in STORES {
+        out.title(name).file(SMALL, &mut vec![byte; length], 0, 0);
+    }
 }
 
 fn filings(out: &mut Out) {
-    for (name, mut store) in [
-        ("store too short", vec![0; 19]),
-        ("store too long", vec![0; 21]),
-        ("store damaged", vec![2; 20]),
-    ] {
-        out.title(name).file(SMALL, &mut store, 0, 0);
-    }
-    let mut store = one_row();
     for (name, entry, value) in [
         ("entry 2 of 2", 2, 0),
         ("entry max", u64::MAX, 0),
@@ -48,45 +49,35 @@ fn filings(out: &mut Out) {
         ("nothing new", 1, 1),
         ("something new", 0, 1),
     ] {
-        out.title(name).file(SMALL, &mut store, entry, value);
+        out.title(name).file(SMALL, &mut one_row(), entry, value);
     }
 }
 
 fn readings(out: &mut Out) {
-    for (name, store, length) in [
-        ("store too short", vec![0; 19], 4),
-        ("store too long", vec![0; 21], 4),
-        ("store damaged", vec![2; 20], 4),
-        ("beta too short", one_row(), 3),
-        ("beta too long", one_row(), 5),
-        ("both fit", one_row(), 4),
-    ] {
+    for (name, byte, length) in STORES {
+        let mut beta = [9; 4];
+        out.title(name)
+            .coefficients(SMALL, &vec![byte; length], &mut beta);
+    }
+    for (name, length) in [("beta too short", 3), ("beta too long", 5), ("both fit", 4)] {
         let mut beta = vec![9; length];
-        out.title(name).coefficients(SMALL, &store, &mut beta);
+        out.title(name).coefficients(SMALL, &[0; 20], &mut beta);
     }
 }
 
-fn writings(out: &mut Out) {
-    for (name, beta, room) in [
-        ("beta too short", &[1, 2, 0][..], 88),
-        ("beta too long", &[1, 2, 0, 1, 0], 88),
-        ("a coefficient of 3", &[1, 2, 0, 3], 88),
-        ("a number too little room", &BETA, 87),
-        ("just enough room", &BETA, 88),
-    ] {
-        out.title(name).writing(SMALL, beta, room);
-    }
-}
-
-fn norms(out: &mut Out) {
+fn betas(out: &mut Out) {
     for (name, beta) in [
-        ("beta too short", &[1, 2, 0][..]),
-        ("beta too long", &[1, 2, 0, 1, 0]),
+        ("just enough room", &BETA[..]),
+        ("beta too short", &[1, 2, 0]),
+        ("beta too long", &[1, 2, 0, 1, 1]),
         ("a coefficient of 3", &[1, 2, 0, 3]),
-        ("a coefficient of 255", &[255, 2, 0, 1]),
+        ("a coefficient of 255", &[1, 2, 0, 255]),
     ] {
-        out.title(name).norm(SMALL, beta);
+        out.title(name).writing(SMALL, beta, 88);
+        out.norm(SMALL, beta);
     }
+    let name = "a number too little room";
+    out.title(name).writing(SMALL, &BETA, 87);
 }
 
 /// One step on the digit 1: faults, then the same numbers at their largest.
@@ -113,21 +104,22 @@ fn steps(out: &mut Out) {
     }
 }
 
+/// Two good steps, each of which adds the digit to y.
+pub const STEPS: [u16; 8] = [1, 6, 0, 1, 1, 6, 0, 1];
+/// The same with a kind of 3 in the second.
+pub const FAULTY: [u16; 8] = [1, 6, 0, 1, 3, 6, 0, 1];
+
 fn lists(out: &mut Out) {
     for (name, steps, digits) in [
-        ("three numbers", &[0; 3][..], &[1][..]),
-        ("five numbers", &[0; 5], &[1]),
-        ("six numbers", &[0; 6], &[1]),
-        (
-            "a fault in the second step",
-            &[1, 6, 0, 1, 3, 0, 0, 0],
-            &[1],
-        ),
-        ("digits too short", &[1, 6, 0, 1], &[]),
-        ("digits too long", &[1, 6, 0, 1], &[1, 0]),
-        ("a digit of s", &[1, 6, 0, 1], &[2]),
-        ("a digit of 255", &[1, 6, 0, 1], &[255]),
-        ("nothing wrong", &[1, 6, 0, 1], &[1]),
+        ("three numbers", &STEPS[..3], &[1][..]),
+        ("five numbers", &STEPS[..5], &[1]),
+        ("six numbers", &STEPS[..6], &[1]),
+        ("a fault in the second step", &FAULTY, &[1]),
+        ("digits too short", &STEPS, &[]),
+        ("digits too long", &STEPS, &[1, 1]),
+        ("a digit of s", &STEPS, &[2]),
+        ("a digit of 255", &STEPS, &[255]),
+        ("nothing wrong", &STEPS, &[1]),
     ] {
         out.title(name).run(SMALL, steps, digits);
     }
@@ -135,11 +127,10 @@ fn lists(out: &mut Out) {
 
 pub fn all(out: &mut Out) {
     rows(out);
-    tests(out);
+    stores(out);
     filings(out);
     readings(out);
-    writings(out);
-    norms(out);
+    betas(out);
     steps(out);
     lists(out);
 }
