@@ -82,15 +82,11 @@ fn bare(name: &[u8], p: usize, n: usize, a: u8, b: u8) {
     calls::norm(p, 2, n, 0, 0, b"", b"", b"", front(&beta, n));
 }
 
-// Plans without links, without products, without both; and a norm above 16 bits.
+// Plans without links and products, one of them with a norm above 16 bits.
 fn without() {
     bare(b"no links and no products", 7, 2, 3, 5);
     bare(b"all zero", 7, 2, 0, 0);
     bare(b"twelve coefficients of 250", 251, 12, 250, 250);
-    title(b"no links");
-    calls::norm(3, 2, 2, 0, 1, b"", b"", b"\x01\x01", b"\x00\x01\x01\x00");
-    title(b"no products");
-    calls::norm(3, 2, 1, 1, 0, b"\x02", b"\x01\x00\x00", b"", b"\x00\x01");
 }
 
 // Every plan.

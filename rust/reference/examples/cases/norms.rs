@@ -55,30 +55,19 @@ fn coefficients(out: &mut Out) {
     }
 }
 
-/// Plans without links, without products, without both; a norm above 16 bits.
+/// Plans without links and products, one of them with a norm above 16 bits.
 fn without(out: &mut Out) {
-    let bare = |p, n, m, t| Plan {
-        numbers: [p, 2, n, m, t],
+    let bare = |p, n| Plan {
+        numbers: [p, 2, n, 0, 0],
         weights: &[],
         tables: &[],
         d: &[],
     };
-    let neither = bare(7, 2, 0, 0);
+    let neither = bare(7, 2);
     out.title("no links and no products").norm(neither, &[3, 5]);
     out.title("all zero").norm(neither, &[0, 0]);
     out.title("twelve coefficients of 250")
-        .norm(bare(251, 12, 0, 0), &[250; 12]);
-    let products = Plan {
-        d: &[1, 1],
-        ..bare(3, 2, 0, 1)
-    };
-    out.title("no links").norm(products, &[0, 1, 1, 0]);
-    let link = Plan {
-        weights: &[2],
-        tables: &[1, 0, 0],
-        ..bare(3, 1, 1, 0)
-    };
-    out.title("no products").norm(link, &[0, 1]);
+        .norm(bare(251, 12), &[250; 12]);
 }
 
 pub fn all(out: &mut Out) {

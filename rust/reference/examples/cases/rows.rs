@@ -9,7 +9,7 @@ fn values(out: &mut Out) {
         ("a weight of p", [2, 3], [2, 2, 2], &[2, 2, 2]),
         ("a table value of p", [2, 2], [3, 2, 2], &[2, 2, 2]),
         ("a product weight of 255", [2, 2], [2, 2, 2], &[2, 255, 2]),
-        ("a length before a value", [3, 3], [3, 3, 3], &[2, 2]),
+        ("a length before a value", [3, 3], [3, 2, 2], &[2, 2]),
     ] {
         let plan = Plan {
             numbers: [3, 2, 2, 1, 1],
