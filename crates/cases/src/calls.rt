@@ -98,6 +98,7 @@ pub fn coefficients(
         store::coefficients(p, s, n, m, t, weights, tables, d, store, beta),
     );
     bytes(b"whole beta", beta);
+    bytes(b"whole store", store);
 }
 
 // The length of the part that the writer hands back; with this call the loan of the slice ends.

@@ -128,6 +128,7 @@ impl Out {
         let number = plan.coefficients(store, beta);
         self.say("store coefficients", number);
         self.whole("whole beta", beta);
+        self.whole("whole store", store);
         number
     }
 
