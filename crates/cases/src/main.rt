@@ -1,7 +1,16 @@
-// The cases of 01 that are left to programs, and the extremes of each number. Every line is a call's answer after its name; the file
-// `stdout` beside src/ has what they must be.
+// The cases of 01 that are left to programs, the extremes of each number, each refusal of each call, and pairs of causes in one call. Every
+// line is a call's answer after its name, or a whole part that it was lent; the file `stdout` beside src/ has what they must be, made by
+// rust/reference/examples/cases.
+mod calls;
+mod every;
+mod norms;
+mod orders;
+mod own;
+mod parts;
 mod programs;
 mod rows;
+mod shown;
+mod small;
 mod stores;
 
 // A name, a space, a number and a line end.
@@ -141,4 +150,9 @@ fn main() {
     programs::xor();
     programs::unwritten();
     programs::foreign();
+    programs::room_to_spare();
+    every::all();
+    own::all();
+    norms::all();
+    orders::all();
 }

@@ -1,8 +1,10 @@
 // Writing and running: the XOR program, foreign lists, and each refusal.
+use crate::calls;
 use crate::say;
+use crate::shown::title;
 
 // What a run answered: y and the number of bootstraps.
-fn ran(a: program::Ran) {
+pub fn ran(a: program::Ran) {
     match a {
         program::Ran::Done(y, count) => {
             io::write_all(1, b"y ");
@@ -16,7 +18,7 @@ fn ran(a: program::Ran) {
 }
 
 // The first k numbers of a list.
-fn front(steps: &[u16], k: usize) -> &[u16] {
+pub fn front(steps: &[u16], k: usize) -> &[u16] {
     if k <= steps.len() {
         return &steps[..k];
     }
@@ -98,4 +100,24 @@ pub fn foreign() {
 fn late_fault(steps: &[u16]) {
     xor_run(steps, b"\x01\x01");
     xor_run(front(steps, 8), b"\x01\x01");
+}
+
+// The XOR program into slices of 80 numbers, of which it takes 76.
+pub fn room_to_spare() {
+    title(b"xor with room for 80");
+    let mut steps = [7u16; 80];
+    let mut again = [7u16; 80];
+    calls::writing(
+        3,
+        2,
+        2,
+        0,
+        1,
+        b"",
+        b"",
+        b"\x01\x01",
+        b"\x00\x01\x01\x00",
+        &mut steps,
+        &mut again,
+    );
 }

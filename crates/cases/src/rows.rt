@@ -1,44 +1,31 @@
 // Values of the parts, and rows.
+use crate::parts::front;
 use crate::say;
+use crate::shown::next;
 
-// Checks the plan p=3 s=2 n=2 with one link and one product, each part given.
-fn given(weights: &[u8], tables: &[u8], d: &[u8]) -> u8 {
-    plan::check(3, 2, 2, 1, 1, weights, tables, d)
+// Checks the plan p=3 s=2 n=2 with one link of weights v w and table x 2 2, and one product whose weights are the first k of 2 y 2.
+fn given(name: &[u8], v: u8, w: u8, x: u8, y: u8, k: usize) {
+    let weights = [v, w];
+    let tables = [x, 2, 2];
+    let d = [2, y, 2];
+    say(
+        name,
+        plan::check(3, 2, 2, 1, 1, &weights, &tables, front(&d, k)),
+    );
 }
 
 // A part's value that is not below p.
 pub fn values() {
-    say(
-        b"values below p",
-        given(b"\x02\x02", b"\x02\x02\x02", b"\x02\x02\x02"),
-    );
-    say(
-        b"a weight of p",
-        given(b"\x02\x03", b"\x02\x02\x02", b"\x02\x02\x02"),
-    );
-    say(
-        b"a table value of p",
-        given(b"\x02\x02", b"\x03\x02\x02", b"\x02\x02\x02"),
-    );
-    say(
-        b"a product weight of 255",
-        given(b"\x02\x02", b"\x02\x02\x02", b"\x02\xff\x02"),
-    );
-    say(
-        b"a length before a value",
-        given(b"\x03\x03", b"\x03\x03\x03", b"\x02\x02"),
-    );
+    given(b"values below p", 2, 2, 2, 2, 3);
+    given(b"a weight of p", 2, 3, 2, 2, 3);
+    given(b"a table value of p", 2, 2, 3, 2, 3);
+    given(b"a product weight of 255", 2, 2, 2, 255, 3);
+    given(b"a length before a value", 3, 3, 3, 2, 2);
 }
 
 // The XOR plan's row of an entry, into `row`.
 fn xor_row(entry: usize, row: &mut [u8]) -> u8 {
     plan::row(3, 2, 2, 0, 1, b"", b"", b"\x01\x01", entry, row)
-}
-
-// A number after a space.
-fn next(byte: u8) {
-    io::write_all(1, b" ");
-    io::print_decimal(1, byte as u64);
 }
 
 // The bytes of a row.

@@ -2,7 +2,7 @@
 use crate::say;
 
 // What filing answered.
-fn answer(a: store::Filed) {
+pub fn answer(a: store::Filed) {
     match a {
         store::Filed::New(c) => {
             io::write_all(1, b"new ");
@@ -48,56 +48,31 @@ pub fn xor() {
     say(b"beta", beta[3]);
 }
 
-// Tests a store of the XOR plan.
-fn tested(store: &[u8]) -> u8 {
-    store::test(3, 2, 2, 0, 1, b"", b"", b"\x01\x01", store)
+// Tests a store of the XOR plan that has these two rows and two of zeros.
+fn tested(name: &[u8], a: u8, b: u8, c: u8, d: u8, v: u8, e: u8, f: u8, g: u8, h: u8, w: u8) {
+    let store = [a, b, c, d, v, e, f, g, h, w, 0, 0, 0, 0, 0, 0, 0, 0, 0, 0];
+    say(
+        name,
+        store::test(3, 2, 2, 0, 1, b"", b"", b"\x01\x01", &store),
+    );
 }
 
 // Stores that are reduced, and stores damaged in each way: 6.
 pub fn damaged() {
-    say(
-        b"empty store",
-        tested(b"\x00\x00\x00\x00\x00\x00\x00\x00\x00\x00\x00\x00\x00\x00\x00\x00\x00\x00\x00\x00"),
-    );
-    say(
-        b"one row",
-        tested(b"\x01\x00\x02\x00\x01\x00\x00\x00\x00\x00\x00\x00\x00\x00\x00\x00\x00\x00\x00\x00"),
-    );
-    say(
-        b"a byte of p",
-        tested(b"\x01\x00\x03\x00\x01\x00\x00\x00\x00\x00\x00\x00\x00\x00\x00\x00\x00\x00\x00\x00"),
-    );
-    say(
-        b"a right-hand side of p",
-        tested(b"\x01\x00\x02\x00\x03\x00\x00\x00\x00\x00\x00\x00\x00\x00\x00\x00\x00\x00\x00\x00"),
-    );
-    say(
-        b"a leading 2",
-        tested(b"\x02\x00\x02\x00\x01\x00\x00\x00\x00\x00\x00\x00\x00\x00\x00\x00\x00\x00\x00\x00"),
-    );
-    say(
-        b"zero with a right-hand side",
-        tested(b"\x00\x00\x00\x00\x01\x00\x00\x00\x00\x00\x00\x00\x00\x00\x00\x00\x00\x00\x00\x00"),
-    );
-    say(
-        b"a row in another's place",
-        tested(b"\x00\x01\x00\x00\x01\x00\x00\x00\x00\x00\x00\x00\x00\x00\x00\x00\x00\x00\x00\x00"),
-    );
-    say(
-        b"left of the pivot",
-        tested(b"\x00\x00\x00\x00\x00\x01\x01\x00\x00\x00\x00\x00\x00\x00\x00\x00\x00\x00\x00\x00"),
-    );
-    say(
-        b"a column not cleared",
-        tested(b"\x01\x02\x00\x00\x01\x00\x01\x00\x00\x02\x00\x00\x00\x00\x00\x00\x00\x00\x00\x00"),
-    );
-    say(
-        b"a column cleared",
-        tested(b"\x01\x00\x02\x00\x01\x00\x01\x01\x00\x02\x00\x00\x00\x00\x00\x00\x00\x00\x00\x00"),
-    );
+    tested(b"empty store", 0, 0, 0, 0, 0, 0, 0, 0, 0, 0);
+    tested(b"one row", 1, 0, 2, 0, 1, 0, 0, 0, 0, 0);
+    tested(b"a byte of p", 1, 0, 3, 0, 1, 0, 0, 0, 0, 0);
+    tested(b"a right-hand side of p", 1, 0, 2, 0, 3, 0, 0, 0, 0, 0);
+    tested(b"a leading 2", 2, 0, 2, 0, 1, 0, 0, 0, 0, 0);
+    tested(b"zero with a right-hand side", 0, 0, 0, 0, 1, 0, 0, 0, 0, 0);
+    tested(b"a row in another's place", 0, 1, 0, 0, 1, 0, 0, 0, 0, 0);
+    tested(b"left of the pivot", 0, 0, 0, 0, 0, 1, 1, 0, 0, 0);
+    tested(b"a column not cleared", 1, 2, 0, 0, 1, 0, 1, 0, 0, 2);
+    tested(b"a column cleared", 1, 0, 2, 0, 1, 0, 1, 1, 0, 2);
+    let short = [0u8; 19];
     say(
         b"a store too short",
-        tested(b"\x00\x00\x00\x00\x00\x00\x00\x00\x00\x00\x00\x00\x00\x00\x00\x00\x00\x00\x00"),
+        store::test(3, 2, 2, 0, 1, b"", b"", b"\x01\x01", &short),
     );
     let mut store = [2u8; 20];
     xor_file(&mut store, 1, 1);
