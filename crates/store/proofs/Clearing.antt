@@ -27,7 +27,6 @@ use Rattle.field.proofs.Modular.{cong-of}
 use Rattle.store.specs.Elimination.{ZeroRow, Reduced, normal, put, cells, flat}
 use Rattle.store.specs.Stages.{Line, cleared}
 use Rattle.store.proofs.Bytes.{flat-length, cells-flat, flat-cells, flat-ext}
-use Rattle.store.proofs.Residuals.{normal-zero}
 use Rattle.store.proofs.Putting.{put-here, put-there}
 use Rattle.store.proofs.Pasting.{rowTail, tailPasted, tail-length, tail-at, tail-residues, tail-size, tail-row, tail-left, tail-other}
 use Rattle.store.proofs.Deferring.{left-zero}
@@ -118,8 +117,12 @@ cleared-all {p} {C} {S} {N} {k} {r} {store} w h =
     ])
 
 -- the pivot, as the residual's multiple leaves it
-module _ (p C : ℕ) (res : List ℕ) (k g : ℕ) (pivot : List ℕ) (line : Line p C res) (pos : 0 < p) (scale : g ≡ inverse p (at res k))
-    (h : pivot ≡ multiple p g res) where
+module _ (p C : ℕ) (res : List ℕ) (g : ℕ) (pivot : List ℕ) (line : Line p C res) (pos : 0 < p) (h : pivot ≡ multiple p g res) where
+  pivot-place : (j : ℕ) → j ≤ C → at pivot j ≡ (g * at res j) % p
+  pivot-place j l =
+      ap (λ (xs : List ℕ). at xs j) h
+      ∙ tab-at (length res) (λ i. (g * at res i) % p) 0 j (omega (arith, line .places))
+
   pub pivot-length : length pivot ≡ C + 1
   pivot-length = ap length h ∙ tab-length (length res) (λ i. (g * at res i) % p) ∙ line .places
 
@@ -132,15 +135,12 @@ module _ (p C : ℕ) (res : List ℕ) (k g : ℕ) (pivot : List ℕ) (line : Lin
             (residues-tab p (length res) (λ j. (g * at res j) % p) pos (λ j l. mod-lt (g * at res j) pos) i);
       }
 
-  pub pivot-at : (j : ℕ) → j ≤ C → at pivot j ≡ normal p (at res) k j
+  pub pivot-at : (k : ℕ) → g ≡ inverse p (at res k) → (j : ℕ) → j ≤ C → at pivot j ≡ normal p (at res) k j
   unfolding normal
-  pivot-at j l =
-      ap (λ (xs : List ℕ). at xs j) h
-      ∙ tab-at (length res) (λ i. (g * at res i) % p) 0 j (omega (arith, line .places))
-      ∙ ap (λ (a : ℕ). (a * at res j) % p) scale
+  pivot-at k scale j l = pivot-place j l ∙ ap (λ (a : ℕ). (a * at res j) % p) scale
 
-  pub pivot-before : k ≤ C → ((j : ℕ) → j < k → at res j ≡ 0) → (j : ℕ) → j < k → at pivot j ≡ 0
-  pivot-before b z j l = pivot-at j (omega arith) ∙ normal-zero p (at res) k j pos (z j l)
+  pub pivot-before : (k : ℕ) → k ≤ C → ((j : ℕ) → j < k → at res j ≡ 0) → (j : ℕ) → j < k → at pivot j ≡ 0
+  pivot-before k b z j l = pivot-place j (omega arith) ∙ rw (z j l, mul-zero g) (mod-eq-of-lt pos)
 
 -- the part from column k on of a line at the front of a longer list
 module _ (C k : ℕ) (pivot rest : List ℕ) (places : length pivot ≡ C + 1) (h : k ≤ C) where

@@ -69,19 +69,19 @@ count : (c : tie.After-set-multiple) →
     length (c .set-multiple .last .0) ≡ args .c + 1
 count c =
     let pre = c .before .before .before .before .before .before .pre in
-    pivot-length _ _ _ _ _ _ (pre .1 .0) (positive c) (c .before .before .inverse .ensures) (c .set-multiple .ensures)
+    pivot-length _ _ _ _ _ (pre .1 .0) (positive c) (c .set-multiple .ensures)
 
 line : (c : tie.After-set-multiple) →
     let args = c .before .before .before .before .before .before .args in
     Line (args .p) (args .c) (c .set-multiple .last .0)
 line c =
     let pre = c .before .before .before .before .before .before .pre in
-    pivot-line _ _ _ _ _ _ (pre .1 .0) (positive c) (c .before .before .inverse .ensures) (c .set-multiple .ensures)
+    pivot-line _ _ _ _ _ (pre .1 .0) (positive c) (c .set-multiple .ensures)
 
 before : (c : tie.After-set-multiple) (j : ℕ) → j < c .before .before .before .before .before .before .args .k → at (c .set-multiple .last .0) j ≡ 0
 before c =
     let pre = c .before .before .before .before .before .before .pre in
-    pivot-before _ _ _ _ _ _ (pre .1 .0) (positive c) (c .before .before .inverse .ensures) (c .set-multiple .ensures) (le-of-lt (pre .1 .1 .0)) (pre .1 .1 .1 .0)
+    pivot-before _ _ _ _ _ (pre .1 .0) (positive c) (c .set-multiple .ensures) _ (le-of-lt (pre .1 .1 .0)) (pre .1 .1 .1 .0)
 
 front : (c : tie.After-set-multiple) (rest : List ℕ) → take (c .before .before .before .before .before .before .args .c + 1) (c .set-multiple .last .0 ++ rest) ≡ c .set-multiple .last .0
 front c rest = take-at (c .set-multiple .last .0) rest (c .before .before .before .before .before .before .args .c + 1) (count c)
@@ -89,7 +89,7 @@ front c rest = take-at (c .set-multiple .last .0) rest (c .before .before .befor
 places : (c : tie.After-set-multiple) (j : ℕ) → j ≤ c .before .before .before .before .before .before .args .c → at (c .set-multiple .last .0) j ≡ normal (c .before .before .before .before .before .before .args .p) (at (c .before .before .before .before .before .before .args .res .now)) (c .before .before .before .before .before .before .args .k) j
 places c =
     let pre = c .before .before .before .before .before .before .pre in
-    pivot-at _ _ _ _ _ _ (pre .1 .0) (positive c) (c .before .before .inverse .ensures) (c .set-multiple .ensures)
+    pivot-at _ _ _ _ _ (pre .1 .0) (positive c) (c .set-multiple .ensures) _ (c .before .before .inverse .ensures)
 
 long : (c : tie.After-set-multiple) (rest : List ℕ) → c .before .before .before .before .before .before .args .c + 1 ≤ length (c .set-multiple .last .0 ++ rest)
 long c rest = simp length-append (omega (arith, count c))
