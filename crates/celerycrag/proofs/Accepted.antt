@@ -2,7 +2,6 @@
 use mathlib.Core.Path.{_≡_, refl}
 use mathlib.Core.List.{List}
 use Prim.Native.Nat.{ℕ, zero, suc, _+_, _-_, _*_, _/_, _≤_}
-use native.Mathlib.Omega.{arith}
 use Rattle.plan.specs.Causes.{first, answer}
 use Rattle.plan.specs.Numbers.{plan, Within}
 use Rattle.plan.proofs.Refusals.{answer-gives, within-of, none-met}

@@ -9,7 +9,6 @@ use lib.ListN.{length}
 use Rattle.plan.specs.Causes.{gives}
 use Rattle.plan.proofs.Bounds.{modulus, prime-low, prime-high}
 use Rattle.program.specs.Steps.{kindOf, toOf, fromOf, byOf}
-use Rattle.program.specs.Calls.{answerOf}
 use Rattle.program.proofs.Interpreting.{StepFacts, step-at, small-inverse, table-small, Running, running-none, running-clear, running-add, running-boot, running-count, running-all}
 use Rattle.program.proofs.running.run_steps.Statement.{statement}
 use Rattle.program.proofs.running.run_steps.Tie as tie
