@@ -3,7 +3,9 @@
 --     combined-cong            so is an equation that agrees modulo p with one that is
 --     combined-mul             so is a multiple of one that is
 --     combined-add             so is the sum of two
+--     combined-sum             so is a sum of multiples of equations that are
 --     combined-satisfies       what satisfies the rows satisfies each sum of multiples of them
+--     span-equations           rows with the same span span the same equations
 --     span-solutions           rows with the same span have the same solutions
 --     span-ext                 the span depends on the places of the rows alone
 --     implied-combined         an equation that all solutions of a reduced store satisfy is a sum of multiples of its rows
@@ -13,14 +15,14 @@ use mathlib.Core.Path.{_≡_, refl, sym, ap, _∙_}
 use mathlib.Core.Bool.{true, cond}
 use mathlib.Core.Logic.{_↔_}
 use mathlib.Core.List.{List}
-use Prim.Native.Nat.{ℕ, _+_, _*_, _%_, _≤_, _<_}
-use native.Mathlib.Nat.{zero-mul, one-mul, mul-comm}
+use Prim.Native.Nat.{ℕ, zero, suc, _+_, _*_, _%_, _≤_, _<_}
+use native.Mathlib.Nat.{le-step, lt-suc-self, zero-mul, one-mul, mul-comm}
 use native.Mathlib.Omega.{arith}
 use lib.Dec.{eqb}
 use lib.ListN.{length}
 use borrow.Author.Tests.{eq-eqb, ne-eqb}
 use Rattle.lists.specs.Places.{sum, at}
-use Rattle.lists.proofs.Sums.{sum-ext, sum-add, sum-mul, sum-only}
+use Rattle.lists.proofs.Sums.{sum-none, sum-ext, sum-add, sum-mul, sum-only}
 use Rattle.field.specs.Primes.{oddPrime}
 use Rattle.field.specs.Residues.{Residues}
 use Rattle.field.proofs.Modular.{cong-add, cong-mul}
@@ -66,6 +68,14 @@ module _ (p C : ℕ) (A : ℕ → ℕ → ℕ) (n : ℕ) where
             ∙ sum-ext (λ q. c .by q * A q j + d .by q * A q j) (λ q. (c .by q + d .by q) * A q j) n (λ q i. omega arith));
       }
 
+  combined-sum : (B : ℕ → ℕ → ℕ) (by : ℕ → ℕ) (m : ℕ) → ((q : ℕ) → q < m → Combined p C A n (B q)) → Combined p C A n (λ j. sum (λ q. by q * B q j) m)
+  unfolding sum
+  combined-sum B by zero h =
+      record { by = λ _. 0; sums = λ j l. ap (λ (k : ℕ). k % p) (sym (sum-none (λ q. 0 * A q j) n (λ q i. zero-mul (A q j)))) }
+  combined-sum B by (suc m) h =
+      combined-add (λ j. sum (λ q. by q * B q j) m) (λ j. by m * B m j) (combined-sum B by m (λ q l. h q (le-step l)))
+      (combined-mul (by m) (B m) (h m (lt-suc-self m)))
+
   combined-satisfies : (e : ℕ → ℕ) → Combined p C A n e → (β : ℕ → ℕ) → ((q : ℕ) → q < n → Satisfies p C (A q) β) → Satisfies p C e β
   combined-satisfies e c β s =
       satisfies-cong p C β (λ j. sum (λ q. c .by q * A q j) n) e (λ j l. sym (c .sums j l)) (satisfies-sum p C β (c .by) A n s)
@@ -76,6 +86,12 @@ module _ (p C : ℕ) (A : ℕ → ℕ → ℕ) (a : ℕ) (B : ℕ → ℕ → �
   span-solutions h β = (
     (λ s q l. combined-satisfies p C A a (B q) (h .1 q l) β s),
     (λ s q l. combined-satisfies p C B b (A q) (h .0 q l) β s),
+  )
+
+  pub span-equations : SameSpan p C A a B b → (e : ℕ → ℕ) → Combined p C A a e ↔ Combined p C B b e
+  span-equations h e = (
+    (λ c. combined-cong p C B b (λ j. sum (λ q. c .by q * A q j) a) e (c .sums) (combined-sum p C B b A (c .by) a (h .0))),
+    (λ c. combined-cong p C A a (λ j. sum (λ q. c .by q * B q j) b) e (c .sums) (combined-sum p C A a B (c .by) b (h .1))),
   )
 
   pub span-ext : (A′ : ℕ → ℕ → ℕ) → ((q j : ℕ) → q < a → j ≤ C → A′ q j ≡ A q j) → SameSpan p C A a B b → SameSpan p C A′ a B b

@@ -1,6 +1,7 @@
 -- 01, "The store": "After it the store is the one reduced form whose rows span the same equations as the old store and the entry." Rows span
 -- the equations that are sums of multiples of them modulo p, coefficients and right-hand side alike; two lists of rows span the same if each
--- row of one is such a sum of the rows of the other. Stands on `Elimination` and `Calls`.
+-- row of one is such a sum of the rows of the other: then so is every sum of multiples (`Spans.span-equations`). Stands on `Elimination` and
+-- `Calls`.
 --     Combined p C A n e         the equation e is a sum of multiples of the first n rows of A, row q taken `by` q times
 --     SameSpan p C A a B b       each of the first a rows of A is a sum of multiples of the first b rows of B, and the other way round
 --     withRow C S e              the C rows of S, and e as the row after them
