@@ -12,6 +12,7 @@ mod rows;
 mod shown;
 mod small;
 mod stores;
+mod texts;
 
 // A name, a space, a number and a line end.
 pub fn say(name: &[u8], number: u8) {
@@ -155,4 +156,5 @@ fn main() {
     own::all();
     norms::all();
     orders::all();
+    texts::all();
 }

@@ -14,6 +14,7 @@ mod own;
 mod programs;
 mod rows;
 mod stores;
+mod texts;
 
 use calls::{Out, Plan};
 
@@ -107,6 +108,7 @@ pub fn output() -> String {
     own::all(&mut out);
     norms::all(&mut out);
     orders::all(&mut out);
+    texts::all(&mut out);
     out.0
 }
 
