@@ -1,0 +1,88 @@
+-- Passes over the words of a line, by the place that they have reached, and over two byte strings.
+--     words-found, next-place               the words from a place on, where a number stands there; the next word is at most one past the end
+--     counted, counted-start, counted-none, counted-full, counted-next, counted-end
+--                                           whether the words from a place on are numerals and, with k before them, n in number
+--     same-length, same-unlike, same-step, same-refuted, same-end      two byte strings, from a place on
+-- Assumes nothing.
+use mathlib.Core.Path.{_≡_, refl, sym, ap, _∙_}
+use mathlib.Core.Bool.{Bool, true, false, _&&_, false≢true}
+use mathlib.Core.List.{List, [], _∷_}
+use Prim.Native.Nat.{ℕ, suc, _+_, _≤_, _<_}
+use native.Mathlib.Nat.{add-zero, zero-add}
+use native.Mathlib.Numerals.{add-one}
+use native.Mathlib.Omega.{arith}
+use lib.Dec.{eqb}
+use lib.ListN.{length, drop, drop-of-length-le}
+use lib.Seq.{drop-cons}
+use borrow.Author.Tests.{eq-eqb, ne-eqb}
+use Rattle.lists.specs.Places.{at}
+use Rattle.lists.proofs.Tests.{both-true, refute, and-false}
+use Rattle.lines.specs.Lines.{cutAt, allNumerals, same}
+use Rattle.lines.specs.Words.{word, wordsFrom, numeralAt}
+use Rattle.lines.specs.declared.numerals.Numeral.the-variants.{Number, Malformed}
+use Rattle.lines.proofs.WordLaws.{piece-fits, pieces-past, pieces-all, pieces-step}
+use Rattle.lines.proofs.NumeralLaws.{none, found}
+
+pub counted : ℕ → List ℕ → ℕ → ℕ → ℕ → Bool
+counted most line i k n = allNumerals most (wordsFrom line i) && eqb (k + length (wordsFrom line i)) n
+
+pub counted-start : (most : ℕ) (line : List ℕ) (n : ℕ) → (allNumerals most (cutAt 32 line) && eqb (length (cutAt 32 line)) n) ≡ counted most line 0 0 n
+unfolding counted
+counted-start most line n = rw (pieces-all 32 line, zero-add)
+
+pub counted-end : (most : ℕ) (line : List ℕ) (i k n : ℕ) → length line < i → counted most line i k n ≡ eqb k n
+unfolding counted allNumerals
+counted-end most line i k n h = rw (pieces-past 32 line i h, add-zero)
+
+module _ (most : ℕ) (line : List ℕ) (i : ℕ) (within : i ≤ length line) where
+  pub counted-none : (k n : ℕ) → numeralAt most line i ≡ Malformed → counted most line i k n ≡ false
+  unfolding counted allNumerals
+  counted-none k n e = rw (pieces-step 32 line i within, none most line i e)
+
+  pub counted-full : (k n : ℕ) → n ≤ k → counted most line i k n ≡ false
+  unfolding counted
+  counted-full k n h =
+      rw (ne-eqb (k + length (wordsFrom line i)) n (λ e. omega (arith, h, e, ap length (pieces-step 32 line i within)))) (and-false (allNumerals most (wordsFrom line i)))
+
+  module _ (v n : ℕ) (read : numeralAt most line i ≡ Number v n) where
+    pub next-place : (i < n) × (n ≤ length line + 1)
+    next-place =
+        let f = found most line i v n read in
+        (omega (arith, f .2), omega (arith, f .2, piece-fits 32 line i within))
+
+    pub words-found : wordsFrom line i ≡ word line i ∷ wordsFrom line n
+    words-found = pieces-step 32 line i within ∙ ap (λ (k : ℕ). word line i ∷ wordsFrom line k) (sym (found most line i v n read .2))
+
+    pub counted-next : (k m : ℕ) → counted most line i k m ≡ counted most line n (k + 1) m
+    unfolding counted allNumerals
+    counted-next k m =
+        let same : k + suc (length (wordsFrom line n)) ≡ k + 1 + length (wordsFrom line n) = omega arith in
+        rw (words-found, found most line i v n read .0) (ap (λ (j : ℕ). allNumerals most (wordsFrom line n) && eqb j m) same)
+
+-- two byte strings, from a place on
+pub same-length : (xs ys : List ℕ) → same xs ys ≡ true → length xs ≡ length ys
+unfolding same
+same-length [] [] h = refl
+same-length [] (y ∷ ys) h = absurd (false≢true h)
+same-length (x ∷ xs) [] h = absurd (false≢true h)
+same-length (x ∷ xs) (y ∷ ys) h = ap suc (same-length xs ys (both-true (eqb x y) (same xs ys) h .1))
+
+pub same-unlike : (xs ys : List ℕ) → (length xs ≡ length ys → ⊥) → same xs ys ≡ false
+same-unlike xs ys h = refute (same xs ys) (λ e. h (same-length xs ys e))
+
+module _ (xs ys : List ℕ) (i : ℕ) (hx : i < length xs) (hy : i < length ys) where
+  same-cons : same (drop i xs) (drop i ys) ≡ (eqb (at xs i) (at ys i) && same (drop (i + 1) xs) (drop (i + 1) ys))
+  unfolding same
+  same-cons = rw (add-one, drop-cons xs i 0 hx, drop-cons ys i 0 hy)
+
+  pub same-step : at xs i ≡ at ys i → same (drop i xs) (drop i ys) ≡ same (drop (i + 1) xs) (drop (i + 1) ys)
+  same-step e = same-cons ∙ rw (eq-eqb (at xs i) (at ys i) e)
+
+  pub same-refuted : (at xs i ≡ at ys i → ⊥) → same (drop i xs) (drop i ys) ≡ false
+  same-refuted e = same-cons ∙ rw (ne-eqb (at xs i) (at ys i) e)
+
+pub same-end : (xs ys : List ℕ) (i : ℕ) → length xs ≡ length ys → length xs ≤ i → same (drop i xs) (drop i ys) ≡ true
+unfolding same
+same-end xs ys i e h =
+    let h′ : length ys ≤ i = omega arith in
+    rw (drop-of-length-le xs h, drop-of-length-le ys h′)
