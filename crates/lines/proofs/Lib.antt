@@ -4,3 +4,4 @@ pub mod DigitLaws
 pub mod NumeralLaws
 pub mod LineLaws
 pub mod Filling
+pub mod Again

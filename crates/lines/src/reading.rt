@@ -29,8 +29,7 @@ pub fn same(xs: &[u8], ys: &[u8]) -> bool
 // A number goes to place i of `out`. Answers how many places are filled, or more than there are where the number was malformed.
 fn keep(numeral: Numeral, i: usize, out: &mut [usize]) -> usize
     requires { ⌜ i < length (now out) ⌝ }
-    ensures { λ r. ⌜ r ≡ specs.filled numeral i (length (now (out .entry))) ⌝ }
-    ensures { λ _. ⌜ now (out .exit) ≡ specs.kept numeral i (now (out .entry)) ⌝ }
+    ensures { λ r. ⌜ (r ≡ specs.filled numeral i (length (now (out .entry)))) × (now (out .exit) ≡ specs.kept numeral i (now (out .entry))) ⌝ }
 {
     match numeral {
         Numeral::Number(v, _) => {
@@ -58,8 +57,7 @@ fn complete(size: usize, at: usize, count: usize, asked: usize) -> bool
 // `out` has places; where it is not, what stands in `out` has no meaning.
 pub fn read_line<'a, 'b>(line: &'a [u8], most: usize, out: &'b mut [usize]) -> bool
     requires { ⌜ most ≤ 9 ⌝ }
-    ensures { λ r. ⌜ r ≡ lines.asks most (length (now (out .entry))) (now (line .entry)) ⌝ }
-    ensures { λ r. ⌜ (r ≡ true → now (out .exit) ≡ lines.numbers (now (line .entry))) ⌝ }
+    ensures { λ r. ⌜ (r ≡ lines.asks most (length (now (out .entry))) (now (line .entry))) × (r ≡ true → now (out .exit) ≡ lines.numbers (now (line .entry))) ⌝ }
 {
     let mut cursor = begin(line, 0);
     let mut count: usize = 0;
