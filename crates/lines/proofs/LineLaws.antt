@@ -2,6 +2,7 @@
 --     words-found, next-place               the words from a place on, where a number stands there; the next word is at most one past the end
 --     counted, counted-start, counted-none, counted-full, counted-next, counted-end
 --                                           whether the words from a place on are numerals and, with k before them, n in number
+--     asks-long, asks-count                 what a test of a line says of it
 --     same-length, same-unlike, same-step, same-refuted, same-end      two byte strings, from a place on
 -- Assumes nothing.
 use mathlib.Core.Path.{_≡_, refl, sym, ap, _∙_}
@@ -11,13 +12,13 @@ use Prim.Native.Nat.{ℕ, suc, _+_, _≤_, _<_}
 use native.Mathlib.Nat.{add-zero, zero-add}
 use native.Mathlib.Numerals.{add-one}
 use native.Mathlib.Omega.{arith}
-use lib.Dec.{eqb}
-use lib.ListN.{length, drop, drop-of-length-le}
+use lib.Dec.{eqb, ltb}
+use lib.ListN.{length, drop, drop-of-length-le, length-map}
 use lib.Seq.{drop-cons}
-use borrow.Author.Tests.{eq-eqb, ne-eqb}
+use borrow.Author.Tests.{le-ltb, eq-eqb, ne-eqb, eqb-true}
 use Rattle.lists.specs.Places.{at}
 use Rattle.lists.proofs.Tests.{both-true, refute, and-false}
-use Rattle.lines.specs.Lines.{cutAt, allNumerals, same}
+use Rattle.lines.specs.Lines.{cutAt, number, allNumerals, asks, numbers, same}
 use Rattle.lines.specs.Words.{word, wordsFrom, numeralAt}
 use Rattle.lines.specs.declared.numerals.Numeral.the-variants.{Number, Malformed}
 use Rattle.lines.proofs.WordLaws.{piece-fits, pieces-past, pieces-all, pieces-step}
@@ -58,6 +59,19 @@ module _ (most : ℕ) (line : List ℕ) (i : ℕ) (within : i ≤ length line) w
     counted-next k m =
         let same : k + suc (length (wordsFrom line n)) ≡ k + 1 + length (wordsFrom line n) = omega arith in
         rw (words-found, found most line i v n read .0) (ap (λ (j : ℕ). allNumerals most (wordsFrom line n) && eqb j m) same)
+
+-- what a test of a line says of it
+module _ (most n : ℕ) (line : List ℕ) where
+  pub asks-long : 1024 ≤ length line → asks most n line ≡ false
+  unfolding asks
+  asks-long h = rw (le-ltb (length line) 1024 h)
+
+  pub asks-count : asks most n line ≡ true → length (numbers line) ≡ n
+  unfolding asks numbers
+  asks-count h =
+      let a = both-true (ltb (length line) 1024) (allNumerals most (cutAt 32 line) && eqb (length (cutAt 32 line)) n) h in
+      let b = both-true (allNumerals most (cutAt 32 line)) (eqb (length (cutAt 32 line)) n) (a .1) in
+      length-map (cutAt 32 line) number ∙ eqb-true (length (cutAt 32 line)) n (b .1)
 
 -- two byte strings, from a place on
 pub same-length : (xs ys : List ℕ) → same xs ys ≡ true → length xs ≡ length ys

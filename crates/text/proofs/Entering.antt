@@ -20,7 +20,7 @@ use Rattle.plan.specs.Numbers.{columns}
 use Rattle.plan.proofs.Refusals.{number-answer}
 use Rattle.store.specs.Calls.{fileCauses, answerOf, filed}
 use Rattle.store.specs.declared.elimination.Filed.{Filed}
-use Rattle.text.specs.Lines.{asks, numbers, same}
+use Rattle.lines.specs.Lines.{asks, numbers, same}
 use Rattle.text.specs.Meaning.{names, header, entryNames, entries, next, cause, unless, planNames, pairNames, entryCauses, entered, judged}
 use Rattle.text.proofs.Judging.{refuses, reaches}
 
@@ -64,13 +64,13 @@ module _ (P : Plan) (w T d : List ℕ) (line : List ℕ) where
       (front S part size (columns P * (columns P + 1)) h (ap length whole ∙ length-replicate size 0) ∙ whole ∙ ap (λ (n : ℕ). replicate n 0) h))
 
 module _ (P : Plan) (w T d S line : List ℕ) where
-  pub entry-thirteen : asks 2 line ≡ false → 13 ≡ first (entryCauses P w T d S line)
+  pub entry-thirteen : asks 5 2 line ≡ false → 13 ≡ first (entryCauses P w T d S line)
   entry-thirteen e = rw e
 
-  passed : asks 2 line ≡ true → first (fileCauses (P .p) (P .s) (P .n) (P .m) (P .t) w T d S (at (numbers line) 0) (at (numbers line) 1)) ≡ first (entryCauses P w T d S line)
+  passed : asks 5 2 line ≡ true → first (fileCauses (P .p) (P .s) (P .n) (P .m) (P .t) w T d S (at (numbers line) 0) (at (numbers line) 1)) ≡ first (entryCauses P w T d S line)
   passed e = rw e
 
-  module _ (ns : List ℕ) (read : ns ≡ numbers line) (asks2 : asks 2 line ≡ true) where
+  module _ (ns : List ℕ) (read : ns ≡ numbers line) (asks2 : asks 5 2 line ≡ true) where
     pub entry-number : (r : ℕ) (f : Filed) (vs : List ℕ) → r ≡ numberOf (answerOf f)
         → answerOf f ≡ answer (first (fileCauses (P .p) (P .s) (P .n) (P .m) (P .t) w T d S (at ns 0) (at ns 1))) vs
         → r ≡ first (entryCauses P w T d S line)

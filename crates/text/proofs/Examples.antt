@@ -17,7 +17,7 @@ use Rattle.program.specs.Layout.{adds, linkSteps, productSteps, layout, stepCou
 use Rattle.listing.specs.Norm.{squares, worst}
 use Rattle.listing.specs.Decimal.{digitsOf, decimal, spaced, line}
 use Rattle.listing.specs.Printed.{listing, refused}
-use Rattle.text.specs.Lines.{cutAt, allDigits, isNumeral, numberFrom, allNumerals, asks, numbers, same}
+use Rattle.lines.specs.Lines.{cutAt, allDigits, isNumeral, numberFrom, allNumerals, asks, numbers, same}
 use Rattle.text.specs.Meaning.{judged, ended, from, meaning}
 
 -- the bytes of a quoted text in ASCII

@@ -33,7 +33,7 @@ use Rattle.listing.specs.Printed.{listing, refused}
 use Rattle.listing.proofs.Rooms.{few-steps}
 use Rattle.text.specs.Meaning.{Judged, ended, meaning}
 use Rattle.text.specs.Streaming.{State, start, pushes, finish}
-use Rattle.text.specs.Progress.{judgedOf, Planned, Fits, stated, stateOf, Room}
+use Rattle.text.specs.Progress.{judgedOf, Planned, Fits, stated, stateOf, BufferSizes}
 use Rattle.text.specs.Sound.{Sound, SoundState}
 use Rattle.text.specs.declared.stages.Stage.{Stage}
 use Rattle.text.specs.declared.stages.Stage.the-variants.{Names, Header, Weights, Table, Product, EntryNames, Entries, Stopped}
@@ -100,7 +100,7 @@ module _ (state : code.State) (line w T d S : List ℕ) where
         ∙ nothing-held (judgedOf (state .stage) w T d S)
 
   -- at the entries, what is filled lies within its buffer
-  pub entries-inside : (P : Plan) (a b c : ℕ) → state .stage ≡ Entries P a b c → Fits (state .stage) → Room w T d S
+  pub entries-inside : (P : Plan) (a b c : ℕ) → state .stage ≡ Entries P a b c → Fits (state .stage) → BufferSizes w T d S
       → Planned P × (a ≤ length w) × (c ≤ length d)
   entries-inside P a b c e f room =
       let fits = subst Fits e f in

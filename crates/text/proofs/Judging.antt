@@ -7,13 +7,13 @@
 -- Assumes nothing.
 use mathlib.Core.Path.{_≡_, refl, sym, ap, ap₂, _∙_}
 use mathlib.Core.Bool.{Bool, true, false}
-use mathlib.Core.List.{List, [], _∷_, _++_, map, append-assoc}
+use mathlib.Core.List.{List, [], _∷_, _++_, append-assoc}
 use Prim.Native.Nat.{ℕ, zero, suc, _+_, _-_, _≤_, _<_}
 use native.Mathlib.Nat.{add-sub-cancel-left}
 use native.Mathlib.Numerals.{add-one}
 use native.Mathlib.Omega.{arith}
 use lib.Dec.{ltb}
-use lib.ListN.{length, take, drop, length-append, length-map, take-append-drop}
+use lib.ListN.{length, take, drop, length-append, take-append-drop}
 use lib.Seq.{take-at, length-take-le, drop-drop}
 use borrow.Author.Tests.{lt-ltb, le-ltb}
 use Rattle.lists.specs.Places.{at, placed}
@@ -22,9 +22,9 @@ use Rattle.plan.specs.declared.numbers.Checked.the-variants.{Accepted, Refused}
 use Rattle.plan.specs.Causes.{first, result}
 use Rattle.plan.specs.Numbers.{columns, numberCauses, plan, numbersOf, answerOf, checked}
 use Rattle.plan.proofs.Refusals.{first-refused, first-passed, answer-refuses, answer-gives, call-plan}
-use Rattle.text.specs.Lines.{cutAt, number, asks, numbers, lineCauses}
-use Rattle.text.specs.Meaning.{Place, header, weights, table, product, entryNames, Judged, next, cause, unless, afterLinks, afterProducts, headerCauses, headerPlan, judged}
-use Rattle.text.proofs.Filling.{asked}
+use Rattle.lines.specs.Lines.{asks, numbers}
+use Rattle.lines.proofs.LineLaws.{asks-count}
+use Rattle.text.specs.Meaning.{Place, header, weights, table, product, entryNames, Judged, next, cause, unless, afterLinks, afterProducts, headerCauses, headerPlan, lineCauses, judged}
 
 module _ (P : Plan) (w T : List ℕ) where
   pub products-more : (j : ℕ) (d : List ℕ) → j < P .t → next (product P j w T d) ≡ next (afterProducts P j w T d)
@@ -48,7 +48,7 @@ pub reaches : (k : ℕ) (place : Place) → k ≡ 0 → next place ≡ unless k 
 reaches zero place h = refl
 reaches (suc k) place h = absurd (omega arith)
 
-pub header-thirteen : (line : List ℕ) → asks 5 line ≡ false → cause 13 ≡ judged header line
+pub header-thirteen : (line : List ℕ) → asks 5 5 line ≡ false → cause 13 ≡ judged header line
 unfolding judged
 header-thirteen line e = rw e
 
@@ -56,7 +56,7 @@ header-thirteen line e = rw e
 outcome : Plan → Judged
 outcome P = unless (first (headerCauses P)) (afterLinks P 0 [] [])
 
-header-judged : (line : List ℕ) → asks 5 line ≡ true → judged header line ≡ outcome (headerPlan (numbers line))
+header-judged : (line : List ℕ) → asks 5 5 line ≡ true → judged header line ≡ outcome (headerPlan (numbers line))
 unfolding judged outcome
 header-judged line e = rw e
 
@@ -93,7 +93,7 @@ module _ (p s n m t : ℕ) where
         ap (λ (R : Plan). next (afterLinks R 0 [] [])) (sym (call-plan p s n m t e))
         ∙ reaches (first (headerCauses (plan p s n m t))) (afterLinks (plan p s n m t) 0 [] []) met
 
-module _ (line ns : List ℕ) (e : ns ≡ numbers line) (asks5 : asks 5 line ≡ true) where
+module _ (line ns : List ℕ) (e : ns ≡ numbers line) (asks5 : asks 5 5 line ≡ true) where
   is-outcome : outcome (plan (at ns 0) (at ns 1) (at ns 2) (at ns 3) (at ns 4)) ≡ judged header line
   is-outcome = ap (λ (l : List ℕ). outcome (headerPlan l)) e ∙ sym (header-judged line asks5)
 
@@ -110,11 +110,10 @@ module _ (line ns : List ℕ) (e : ns ≡ numbers line) (asks5 : asks 5 line ≡
 -- a line of a part: r is its refusal
 module _ (n p r : ℕ) (line : List ℕ) (e : r ≡ first (lineCauses n p line)) where
   part-count : r ≡ 0 → length (numbers line) ≡ n
-  unfolding numbers
-  part-count z = by (asks n line) refl
+  part-count z = by (asks 5 n line) refl
     where
-      by : (b : Bool) → asks n line ≡ b → length (map number (cutAt 32 line)) ≡ n
-      by true a = length-map (cutAt 32 line) number ∙ asked n line a .1
+      by : (b : Bool) → asks 5 n line ≡ b → length (numbers line) ≡ n
+      by true a = asks-count 5 n line a
       by false a = let w : r ≡ 13 = e ∙ rw a in absurd (omega arith)
 
   part-refuses : (place : Place) → (r ≡ 0 → ⊥) → cause r ≡ unless (first (lineCauses n p line)) place

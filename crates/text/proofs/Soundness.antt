@@ -25,13 +25,13 @@ use Rattle.plan.proofs.Bounds.{prime-low}
 use Rattle.plan.proofs.Refusals.{within-of, first-none}
 use Rattle.store.specs.Calls.{fileCauses}
 use Rattle.store.proofs.Readiness.{empty-ready, value-below, filed-ready}
-use Rattle.text.specs.Lines.{cutAt, number, asks, numbers, lineCauses, same}
-use Rattle.text.specs.Meaning.{Place, names, header, weights, table, product, entryNames, entries, Judged, next, cause, unless, afterLinks, afterProducts, headerCauses, headerPlan, entryCauses, entered, judged, planNames, pairNames}
+use Rattle.lines.specs.Lines.{asks, numbers, same}
+use Rattle.lines.proofs.LineLaws.{asks-count}
+use Rattle.text.specs.Meaning.{Place, names, header, weights, table, product, entryNames, entries, Judged, next, cause, unless, afterLinks, afterProducts, headerCauses, headerPlan, lineCauses, entryCauses, entered, judged, planNames, pairNames}
 use Rattle.text.specs.Streaming.{State, reading, stopped, turned, push, pushes, hold}
 use Rattle.text.specs.Progress.{Planned}
 use Rattle.text.specs.Sound.{Parts, Sound, SoundState}
-use Rattle.text.proofs.LineLaws.{below-cons}
-use Rattle.text.proofs.Filling.{asked}
+use Rattle.text.proofs.Parting.{below-cons}
 
 -- a line after which there is a next place met none of its causes
 unless-next : (k : ℕ) (place after : Place) → unless k place ≡ next after → (k ≡ 0) × (place ≡ after)
@@ -51,11 +51,10 @@ below-append p (x ∷ xs) ys hx hy =
 
 -- a line of a part: as many numbers as asked for, all below p
 part-line : (n p : ℕ) (line : List ℕ) → first (lineCauses n p line) ≡ 0 → (length (numbers line) ≡ n) × (allBelow p (numbers line) ≡ true)
-unfolding numbers
 part-line n p line e =
-    let a = passed 13 (not (asks n line)) (first ((5, not (allBelow p (numbers line))) ∷ [])) (omega arith) e in
+    let a = passed 13 (not (asks 5 n line)) (first ((5, not (allBelow p (numbers line))) ∷ [])) (omega arith) e in
     let b = passed 5 (not (allBelow p (numbers line))) 0 (omega arith) (a .1) in
-    (length-map (cutAt 32 line) number ∙ asked n line (not-false (asks n line) (a .0)) .1, not-false (allBelow p (numbers line)) (b .0))
+    (asks-count 5 n line (not-false (asks 5 n line) (a .0)), not-false (allBelow p (numbers line)) (b .0))
 
 module _ (P : Plan) where
   sound-products : (b : ℕ) (w T d : List ℕ) → b ≤ P .t → Parts P (P .m) (P .m) b w T d → Sound (afterProducts P b w T d)
@@ -151,8 +150,8 @@ unfolding judged Sound
 sound-judged names line after s e = subst Sound (unless-next (first ((13, not (same line planNames)) ∷ [])) header after e .1) tt
 sound-judged header line after s e =
     let P = headerPlan (numbers line) in
-    let u = unless-next (first ((13, not (asks 5 line)) ∷ headerCauses P)) (afterLinks P 0 [] []) after e in
-    let h = passed 13 (not (asks 5 line)) (first (headerCauses P)) (omega arith) (u .0) in
+    let u = unless-next (first ((13, not (asks 5 5 line)) ∷ headerCauses P)) (afterLinks P 0 [] []) after e in
+    let h = passed 13 (not (asks 5 5 line)) (first (headerCauses P)) (omega arith) (u .0) in
     subst Sound (u .1) (sound-links P 0 [] [] (omega arith) (no-parts P (planned-of P (h .1))))
 sound-judged (weights P k w T) line after s e =
     let u = unless-next (first (lineCauses (P .n + k) (P .p) line)) (table P k (w ++ numbers line) T) after e in
@@ -170,7 +169,7 @@ sound-judged (entries P w T d S) line after s e =
     let i = at (numbers line) 0 in
     let v = at (numbers line) 1 in
     let u = unless-next (first (entryCauses P w T d S line)) (entries P w T d (entered P w T d S line)) after e in
-    let h = passed 13 (not (asks 2 line)) (first (fileCauses (P .p) (P .s) (P .n) (P .m) (P .t) w T d S i v)) (omega arith) (u .0) in
+    let h = passed 13 (not (asks 5 2 line)) (first (fileCauses (P .p) (P .s) (P .n) (P .m) (P .t) w T d S i v)) (omega arith) (u .0) in
     let within : Within P = s .0 .planned .0 in
     subst Sound (u .1)
     (s .0, filed-ready P w T d S i v within (lent P (s .0)) (omega (arith, value-below P w T d S i v (h .1), within .radix-high)) (s .1))

@@ -7,6 +7,7 @@
 --     afterProducts P b .., afterLinks P k ..      the place after b of the products, and after k of the links
 --     unless k place      that place, or cause k where k is not 0
 --     headerCauses P, headerPlan ns      the values line: its causes but 13, and the plan that its five numbers ask for
+--     lineCauses n p line      the causes of a line of n residues modulo p
 --     entryCauses .. line, entered .. line     an entry line: its causes, and the store after it
 --     judged place line   the judgement of a line: one clause for each kind of line
 --     ended place j       what is printed when the text ends before line j: the listing after entries, else 13 for the missing line j
@@ -19,12 +20,13 @@ use Prim.Native.Nat.{ℕ, zero, suc, _+_}
 use lib.Dec.{ltb}
 use lib.ListN.{length}
 use Rattle.lists.specs.Places.{at, placed}
+use Rattle.field.specs.Rows.{allBelow}
 use Rattle.plan.specs.declared.numbers.Plan.{Plan}
 use Rattle.plan.specs.Causes.{first}
 use Rattle.plan.specs.Numbers.{variables, columns, numberCauses, plan}
 use Rattle.store.specs.Calls.{emptyStore, fileCauses, filed, coefficients}
 use Rattle.listing.specs.Printed.{listing, refused}
-use Rattle.text.specs.Lines.{cutAt, asks, numbers, lineCauses, same}
+use Rattle.lines.specs.Lines.{cutAt, asks, numbers, same}
 
 pub data Place : Type 0 where
   names : Place
@@ -65,10 +67,14 @@ headerCauses P = numberCauses (P .p) (P .s) (P .n) (P .m) (P .t) ++ ((14, ltb 25
 abbrev pub headerPlan : List ℕ → Plan
 headerPlan ns = plan (at ns 0) (at ns 1) (at ns 2) (at ns 3) (at ns 4)
 
+-- a line of n residues modulo p: 13, then 5
+abbrev pub lineCauses : ℕ → ℕ → List ℕ → List (ℕ × Bool)
+lineCauses n p bytes = (13, not (asks 5 n bytes)) ∷ (5, not (allBelow p (numbers bytes))) ∷ []
+
 -- an entry line: 13, then the causes of filing it; and the store with the entry filed
 abbrev pub entryCauses : Plan → List ℕ → List ℕ → List ℕ → List ℕ → List ℕ → List (ℕ × Bool)
 entryCauses P w T d S bytes =
-    (13, not (asks 2 bytes)) ∷ fileCauses (P .p) (P .s) (P .n) (P .m) (P .t) w T d S (at (numbers bytes) 0) (at (numbers bytes) 1)
+    (13, not (asks 5 2 bytes)) ∷ fileCauses (P .p) (P .s) (P .n) (P .m) (P .t) w T d S (at (numbers bytes) 0) (at (numbers bytes) 1)
 
 abbrev pub entered : Plan → List ℕ → List ℕ → List ℕ → List ℕ → List ℕ → List ℕ
 entered P w T d S bytes = filed P w T d S (at (numbers bytes) 0) (at (numbers bytes) 1)
@@ -78,7 +84,7 @@ unfoldable pub judged : Place → List ℕ → Judged
 judged names bytes = unless (first ((13, not (same bytes planNames)) ∷ [])) header
 judged header bytes =
     let P = headerPlan (numbers bytes) in
-    unless (first ((13, not (asks 5 bytes)) ∷ headerCauses P)) (afterLinks P 0 [] [])
+    unless (first ((13, not (asks 5 5 bytes)) ∷ headerCauses P)) (afterLinks P 0 [] [])
 judged (weights P k w T) bytes =
     unless (first (lineCauses (P .n + k) (P .p) bytes)) (table P k (w ++ numbers bytes) T)
 judged (table P k w T) bytes =

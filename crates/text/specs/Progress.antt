@@ -6,7 +6,7 @@
 --     rejudged o line             the judgement of a line after the judgement o of those before it
 --     stated j held o             the definition's state after the judgement o: line j with the bytes held of it, or stopped there
 --     stateOf state line w T d S  the definition's state, over the bytes of the line and the buffers
---     Room w T d S                the buffers are as large as the text may need
+--     BufferSizes w T d S                the buffers are as large as the text may need
 use mathlib.Core.List.{List}
 use Prim.Native.Nat.{ℕ, _+_, _*_, _≤_, _<_}
 use lib.ListN.{length, take}
@@ -54,7 +54,7 @@ stated j held (cause k) = streaming.stopped k j
 abbrev pub stateOf : State → List ℕ → List ℕ → List ℕ → List ℕ → List ℕ → streaming.State
 stateOf state line w T d S = stated (state .line) (take (state .held) line) (judgedOf (state .stage) w T d S)
 
-pub record Room (w T d S : List ℕ) : Type 0 where
+pub record BufferSizes (w T d S : List ℕ) : Type 0 where
   pub weights-room : 4096 ≤ length w
   pub tables-room : 16384 ≤ length T
   pub products-room : 2048 ≤ length d

@@ -8,10 +8,9 @@ ghost use Rattle.text.specs.Meaning as meaning;
 ghost use Rattle.plan.specs.Causes.{first, result, numberOf};
 ghost use Rattle.store.specs.Calls.{answerOf};
 ghost use Rattle.text.specs.Progress.{judgedOf, Planned, Fits};
-use crate::reading::asks;
-use crate::reading::read_numbers;
-use crate::reading::same;
 use crate::stages::Stage;
+use lines::read_line;
+use lines::same;
 use plan::Plan;
 use store::Filed;
 
@@ -73,11 +72,10 @@ fn entry_line(
     ensures { λ r. ⌜ r ≡ first (meaning.entryCauses plan (now (weights .entry)) (now (tables .entry)) (now (d .entry)) (now (store .entry)) (now (line .entry))) ⌝ }
     ensures { λ r. ⌜ now (store .exit) ≡ result r (meaning.entered plan (now (weights .entry)) (now (tables .entry)) (now (d .entry)) (now (store .entry)) (now (line .entry))) (now (store .entry)) ⌝ }
 {
-    if !asks(line, 2) {
+    let mut v = [0usize; 2];
+    if !read_line(line, 5, &mut v) {
         return 13;
     }
-    let mut v = [0usize; 2];
-    read_numbers(line, &mut v);
     let filed = store::file(
         plan.p as usize,
         plan.s as usize,

@@ -5,13 +5,13 @@ ghost use Prim.Native.Nat.{ℕ, _+_, _*_, _≤_, _<_};
 ghost use lib.ListN.{length, take};
 ghost use Rattle.lists.specs.Places.{placed};
 ghost use Rattle.plan.specs.Causes.{first, result};
-ghost use Rattle.text.specs.Lines as lines;
+ghost use Rattle.lines.specs.Lines.{numbers};
 ghost use Rattle.text.specs.Meaning as meaning;
 ghost use Rattle.text.specs.Progress.{judgedOf, Planned, Fits};
-use crate::reading::asks;
-use crate::reading::read_numbers;
+use crate::buffers::numbers_buffer;
 use crate::reading::read_part;
-use crate::reading::same;
+use lines::read_line;
+use lines::same;
 use plan::Checked;
 use plan::Plan;
 
@@ -69,11 +69,10 @@ pub fn header_line(line: &[u8]) -> Stage
     ensures { λ r. ⌜ Fits r ⌝ }
     ensures { λ r. ⌜ ((w T d S : List ℕ) → judgedOf r w T d S ≡ meaning.judged meaning.header (now (line .entry))) ⌝ }
 {
-    if !asks(line, 5) {
+    let mut v = [0usize; 5];
+    if !read_line(line, 5, &mut v) {
         return Stage::Stopped(13);
     }
-    let mut v = [0usize; 5];
-    read_numbers(line, &mut v);
     match Plan::new(v[0], v[1], v[2], v[3], v[4]) {
         Checked::Refused(k) => Stage::Stopped(k),
         Checked::Accepted(plan) => {
@@ -87,12 +86,18 @@ pub fn header_line(line: &[u8]) -> Stage
 
 // A line of `count` residues into a buffer, from place `from` on: 13, 5, or 0. A refusal leaves the buffer as it was.
 fn part_line(line: &[u8], p: u8, from: usize, count: usize, buffer: &mut [u8]) -> u8
-    requires { ⌜ from + count ≤ length (now buffer) ⌝ }
-    ensures { λ r. ⌜ r ≡ first (lines.lineCauses count p (now (line .entry))) ⌝ }
-    ensures { λ r. ⌜ now (buffer .exit) ≡ result r (placed (now (buffer .entry)) from (lines.numbers (now (line .entry)))) (now (buffer .entry)) ⌝ }
+    requires { ⌜ (from + count ≤ length (now buffer)) × (count ≤ 251) ⌝ }
+    ensures { λ r. ⌜ r ≡ first (meaning.lineCauses count p (now (line .entry))) ⌝ }
+    ensures { λ r. ⌜ now (buffer .exit) ≡ result r (placed (now (buffer .entry)) from (numbers (now (line .entry)))) (now (buffer .entry)) ⌝ }
 {
+    let mut read = numbers_buffer();
     let end = from + count;
-    read_part(line, p as usize, &mut buffer[from..end])
+    read_part(
+        line,
+        p as usize,
+        &mut read[..count],
+        &mut buffer[from..end],
+    )
 }
 
 // A line of link weights.
