@@ -9,7 +9,7 @@ ghost use mathlib.Core.Path.{_≡_};
 ghost use Prim.Native.Nat.{_≤_, _<_};
 ghost use lib.ListN.{length};
 ghost use Rattle.lists.specs.Places.{placed};
-ghost use Rattle.text.specs.Progress.{Fits, stateOf, Room};
+ghost use Rattle.text.specs.Progress.{Fits, stateOf, BufferSizes};
 ghost use Rattle.text.specs.Sound.{SoundState};
 ghost use Rattle.text.specs.Streaming as streaming;
 ghost use Rattle.filing.specs.Input.{Fed, Ended, Printed};
@@ -32,7 +32,7 @@ fn read_all(
     store: &mut [u8],
 ) -> Input
     requires { ⌜ (0 < length (now chunk)) × (length (now chunk) ≤ 65536) × (1024 ≤ length (now line)) ⌝ }
-    requires { ⌜ Room (now weights) (now tables) (now d) (now store) ⌝ }
+    requires { ⌜ BufferSizes (now weights) (now tables) (now d) (now store) ⌝ }
     ensures { λ r. ⌜ Fits (r .state .stage) × (r .state .held ≤ 1024) ⌝ }
     ensures { λ r. ⌜ Fed (stateOf (r .state) (now (line .exit)) (now (weights .exit)) (now (tables .exit)) (now (d .exit)) (now (store .exit))) (r .count) ⌝ }
     ensures { λ r. ⌜ Ended (r .last) (r .count) ⌝ }
@@ -63,7 +63,7 @@ fn print_end(
     requires { ⌜ Fits (state .stage) × (state .held ≤ 1024) ⌝ }
     requires { ⌜ SoundState (stateOf state (now line) (now weights) (now tables) (now d) (now store)) ⌝ }
     requires { ⌜ 1024 ≤ length (now line) ⌝ }
-    requires { ⌜ Room (now weights) (now tables) (now d) (now store) ⌝ }
+    requires { ⌜ BufferSizes (now weights) (now tables) (now d) (now store) ⌝ }
     requires { ⌜ (20000 ≤ length (now steps)) × (131072 ≤ length (now out)) ⌝ }
     ensures { λ _. ⌜ now (out .exit) ≡ placed (now (out .entry)) 0 (streaming.finish (stateOf state (now (line .entry)) (now (weights .entry)) (now (tables .entry)) (now (d .entry)) (now (store .entry)))) ⌝ }
 {
@@ -85,7 +85,7 @@ fn run(
     out: &mut [u8],
 ) -> Input
     requires { ⌜ (0 < length (now chunk)) × (length (now chunk) ≤ 65536) × (1024 ≤ length (now line)) ⌝ }
-    requires { ⌜ Room (now weights) (now tables) (now d) (now store) ⌝ }
+    requires { ⌜ BufferSizes (now weights) (now tables) (now d) (now store) ⌝ }
     requires { ⌜ (20000 ≤ length (now steps)) × (131072 ≤ length (now out)) ⌝ }
     ensures { λ r. ⌜ Printed (r .count) (r .last) (now (out .entry)) (now (out .exit)) ⌝ }
 {

@@ -7,7 +7,7 @@ use mir.Syntax.{w64}
 use mir.Val.{ofZ, toZ}
 use borrow.Author.Needs.{needs}
 use borrow.Author.Tests.{ltb-true, ltb-false}
-use Rattle.text.proofs.Turning.{room-kept}
+use Rattle.text.proofs.Turning.{sizes-kept}
 use Rattle.filing.specs.Input.{most}
 use Rattle.filing.proofs.Chunks.{Reading, reading-start, reading-next, left, left-less}
 use Rattle.filing.proofs.read_all.Statement.{statement}
@@ -52,7 +52,7 @@ feed-requires c κs =
     let pre = c .before .before .before .before .before .before .before .before .before .before .before .before .before .before .before .before .before .before .before .before .before .before .pre in
     let counted = c .before .before .before .before .before .before .count .ensures .0 .1 in
     let r = c .before .before .before .before .before .before in
-    (reading .fits, ((reading .held, omega (arith, reading .line-same, pre .0 .2), omega (arith, counted, reading .number, few r)), room-kept (pre .1) (reading .kept)))
+    (reading .fits, ((reading .held, omega (arith, reading .line-same, pre .0 .2), omega (arith, counted, reading .number, few r)), sizes-kept (pre .1) (reading .kept)))
 
 add-count : tie.Need-add-count Inv-loop μ-loop
 add-count c =

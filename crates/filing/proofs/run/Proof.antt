@@ -1,6 +1,6 @@
 -- `filing::run` meets its contract: where the last read answered 0, what `finish` prints is the meaning of the bytes that were fed. Assumes nothing.
 use native.Mathlib.Omega.{arith}
-use Rattle.text.proofs.Turning.{room-kept}
+use Rattle.text.proofs.Turning.{sizes-kept}
 use borrow.Author.Needs.{needs}
 use Rattle.filing.proofs.Chunks.{fed-sound, printed-end, printed-none}
 use Rattle.filing.proofs.run.Statement.{statement}
@@ -13,7 +13,7 @@ print-end-requires : tie.Need-print-end-requires
 print-end-requires c κs =
     let read-all = c .before .before .before .before .before .before .before .before .before .before .before .before .before .before .before .before .before .before .before .before .before .before .read-all in
     let pre = c .before .before .before .before .before .before .before .before .before .before .before .before .before .before .before .before .before .before .before .before .before .before .before .before .before .before .before .before .before .before .before .before .before .before .before .before .before .pre in
-    (read-all .ensures .0, (fed-sound (read-all .ensures .1 .0), (omega (arith, pre .0 .2, read-all .kept .1 .0), (room-kept (pre .1 .0) (read-all .kept .1 .1), pre .1 .1))))
+    (read-all .ensures .0, (fed-sound (read-all .ensures .1 .0), (omega (arith, pre .0 .2, read-all .kept .1 .0), (sizes-kept (pre .1 .0) (read-all .kept .1 .1), pre .1 .1))))
 
 slice-aggregate-fail : tie.Need-slice-aggregate-fail
 slice-aggregate-fail c = search needs
