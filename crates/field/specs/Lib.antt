@@ -1,4 +1,6 @@
--- The definitions of `field`: the primes, inverses and squares modulo p, and the operations on rows of residues.
+-- The definitions of `field`. What a reader must believe: the primes, residues with their inverses and squares, and of `Rows` the sum `dot`
+-- and the test `allBelow`, which the definitions of the crates above cite.
 pub mod Primes
 pub mod Residues
+-- The rest of `Rows` only serves the code of rows, here and in `store`.
 pub mod Rows

@@ -5,7 +5,7 @@
 --     multiple p g ys          g times ys, place by place, modulo p
 --     plusTimes g xs ys        xs plus g times ys, place by place, not reduced
 --     remainders p xs          xs modulo p, place by place
---     Room k xs                each place of xs has room for k more in 32 bits
+--     Headroom k xs            each place of xs has room for k more in 32 bits
 --     allBelow p xs            each place of xs is below p, as a test
 --     allWithin bs xs          no place of xs is above its place of bs, as a test
 use mathlib.Core.Bool.{Bool}
@@ -30,8 +30,8 @@ plusTimes g xs ys = tab (length xs) (λ j. at xs j + g * at ys j)
 abbrev pub remainders : ℕ → List ℕ → List ℕ
 remainders p xs = tab (length xs) (λ j. at xs j % p)
 
-abbrev pub Room : ℕ → List ℕ → Type 0
-Room k xs = (j : ℕ) → at xs j + k < 4294967296
+abbrev pub Headroom : ℕ → List ℕ → Type 0
+Headroom k xs = (j : ℕ) → at xs j + k < 4294967296
 
 abbrev pub allBelow : ℕ → List ℕ → Bool
 allBelow p xs = every (λ j. ltb (at xs j) p) (length xs)

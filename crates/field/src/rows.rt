@@ -62,7 +62,7 @@ pub fn dot(ws: &[u8], xs: &[u8], p: u8) -> u8
 // acc plus g times ys, in 32 bits and not reduced: each place has room for one product of two bytes, at most 65,025.
 pub fn accumulate(acc: &mut [u32], ys: &[u8], g: u8)
     requires { ⌜ length (now ys) ≡ length (now acc) ⌝ }
-    requires { ⌜ specs.Room 65025 (now acc) ⌝ }
+    requires { ⌜ specs.Headroom 65025 (now acc) ⌝ }
     ensures { λ _. ⌜ now (acc .exit) ≡ specs.plusTimes g (now (acc .entry)) (now (ys .entry)) ⌝ }
 {
     if g == 0 {
@@ -94,7 +94,7 @@ pub fn accumulate_short(acc: &mut [u16], ys: &[u8], g: u8)
 // short added to acc, which has room for 16 bits more, and short zero again.
 pub fn pour(acc: &mut [u32], short: &mut [u16])
     requires { ⌜ length (now short) ≡ length (now acc) ⌝ }
-    requires { ⌜ specs.Room 65535 (now acc) ⌝ }
+    requires { ⌜ specs.Headroom 65535 (now acc) ⌝ }
     ensures { λ _. ⌜ now (acc .exit) ≡ specs.plusTimes 1 (now (acc .entry)) (now (short .entry)) ⌝ }
     ensures { λ _. ⌜ now (short .exit) ≡ tab (length (now (short .entry))) (λ _. 0) ⌝ }
 {

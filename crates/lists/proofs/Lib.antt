@@ -1,8 +1,8 @@
--- The laws of `lists`, one module for each definition, and one for loops that write a list in place.
+-- The laws of `lists`, one module for each definition (`Placing` has those of `placed`), and one for loops that write a list in place.
 pub mod Sums
 pub mod Maxima
 pub mod Tabs
 pub mod Tests
 pub mod Parts
-pub mod Overwrite
 pub mod Placing
+pub mod Overwrite

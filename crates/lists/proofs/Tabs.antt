@@ -1,9 +1,9 @@
--- The laws of `tab`: its length, what stands at a place, and that a list is the `tab` of its places.
+-- The laws of `tab`: its length, what stands at a place, that a list is the `tab` of its places, and a `tab` cut in two.
 -- Assumes nothing.
 use mathlib.Core.Path.{_≡_, refl, sym, ap, _∙_}
-use mathlib.Core.List.{List}
-use Prim.Native.Nat.{ℕ, zero, suc, _<_}
-use native.Mathlib.Nat.{le-of-suc-le-suc, not-suc-le-zero}
+use mathlib.Core.List.{List, _∷_, _++_}
+use Prim.Native.Nat.{ℕ, zero, suc, _+_, _<_}
+use native.Mathlib.Nat.{le-of-suc-le-suc, not-suc-le-zero, zero-add, suc-add}
 use lib.ListN.{length, getD}
 use lib.Seq.{ext-getD}
 use Rattle.lists.specs.Places.{tab}
@@ -27,3 +27,12 @@ module _ {ℓ} {A : Type ℓ} where
 
   pub tab-ext : (n : ℕ) (f g : ℕ → A) (d : A) → ((i : ℕ) → i < n → f i ≡ g i) → tab n f ≡ tab n g
   tab-ext n f g d h = is-tab (tab n f) n g d (tab-length n f) (λ i l. tab-at n f d i l ∙ h i l)
+
+  pub tab-append : (n m : ℕ) (f : ℕ → A) (d : A) → tab (n + m) f ≡ tab n f ++ tab m (λ k. f (n + k))
+  unfolding tab
+  tab-append zero m f d = ap (λ (k : ℕ). tab k f) (zero-add m) ∙ tab-ext m f (λ k. f (zero + k)) d (λ i l. ap f (sym (zero-add i)))
+  tab-append (suc n) m f d =
+      ap (λ (k : ℕ). tab k f) (suc-add n m)
+      ∙ ap (λ (l : List A). f zero ∷ l)
+      (tab-append n m (λ k. f (suc k)) d
+      ∙ ap (λ (l : List A). tab n (λ k. f (suc k)) ++ l) (tab-ext m (λ k. f (suc (n + k))) (λ k. f (suc n + k)) d (λ i l. ap f (sym (suc-add n i)))))

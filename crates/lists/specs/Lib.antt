@@ -1,3 +1,4 @@
--- The definitions of `lists`: finite sums, the largest of numbers, lists by place, and tests of every place. They stand on the standard
--- library alone and render no document.
+-- The definitions of `lists`: finite sums, the largest of numbers, lists by place, a list with others written over it, and tests of every
+-- place. They stand on the standard library alone and render no document. All of them are what a reader must believe: every specification
+-- above is written in them.
 pub mod Places

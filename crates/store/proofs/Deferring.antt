@@ -26,7 +26,7 @@ use Rattle.lists.proofs.Sums.{sum-zero, sum-next, sum-le}
 use Rattle.lists.proofs.Tabs.{tab-length, tab-at, tab-ext, is-tab}
 use Rattle.lists.proofs.Parts.{part-length, part-at, at-past}
 use Rattle.field.specs.Residues.{Modulus}
-use Rattle.field.specs.Rows.{plusTimes, remainders, Room}
+use Rattle.field.specs.Rows.{plusTimes, remainders, Headroom}
 use Rattle.field.proofs.Modular.{cong-add, sum-cong, mul-mod-l}
 use Rattle.store.specs.Elimination.{ZeroRow, Reduced, residual, cells}
 use Rattle.store.specs.Stages.{Ready, Line, deferred, factor, Poured}
@@ -101,7 +101,7 @@ module _ (p C : ℕ) (store e : List ℕ) where
             mul-le-mul a b
 
     module _ {q begin : ℕ} {f : ℕ → ℕ} (w : Subtracted p C store e q begin f) where
-      pub subtracted-room : (k : ℕ) → k ≤ 65535 → (acc : List ℕ) → length acc ≡ C + 1 → ((j : ℕ) → j ≤ C → at acc j ≤ f j) → Room k acc
+      pub subtracted-room : (k : ℕ) → k ≤ 65535 → (acc : List ℕ) → length acc ≡ C + 1 → ((j : ℕ) → j ≤ C → at acc j ≤ f j) → Headroom k acc
       subtracted-room k most acc n h i = elim (decLt i (C + 1)) [
         | yes l ↦ omega (arith, h i (omega arith), w .sums i (omega arith), small q i (w .within) (omega arith))
         | no l ↦ rw (at-past acc i (omega arith)) (omega arith)
@@ -247,7 +247,7 @@ module _ (p C : ℕ) (store e : List ℕ) where
         subtracted-all p C store e (w .both) h (ap length k ∙ poured-length) (λ j l. ap (λ (xs : List ℕ). at xs j) k ∙ poured-at j l)
 
     module _ (ready : Ready p C store) (line : Line p C e) where
-      pub held-small : Room 65535 acc
+      pub held-small : Headroom 65535 acc
       held-small = subtracted-room p C store e ready line (w .both) 65535 (omega arith) acc (w .wide) (λ j l. omega arith)
 
       module _ (l : q < C) (g : ℕ) (eg : g ≡ factor p (at e q) (at store (begin + q))) (some : 0 < left) where

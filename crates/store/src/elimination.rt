@@ -4,7 +4,7 @@ ghost use Prim.Native.Nat.{ℕ, _+_, _-_, _*_, _≤_, _<_};
 ghost use lib.ListN.{length};
 ghost use Rattle.lists.specs.Places.{tab, at};
 ghost use Rattle.field.specs.Residues.{Modulus, Residues};
-ghost use Rattle.field.specs.Rows.{plusMultiple, Room};
+ghost use Rattle.field.specs.Rows.{plusMultiple, Headroom};
 ghost use Rattle.plan.specs.Numbers.{Within, columns};
 ghost use Rattle.plan.specs.Parts.{Lent};
 ghost use Rattle.store.specs.Elimination as specs;
@@ -59,7 +59,7 @@ fn defer_wide(acc: &mut [u32], store: &[u8], e: &[u8], c: usize, p: u8)
 // Where short has no room for a row more, it is poured into acc. Answers for how many rows there is room.
 fn make_room(acc: &mut [u32], short: &mut [u16], left: u32, rows: u32) -> u32
     requires { ⌜ length (now short) ≡ length (now acc) ⌝ }
-    requires { ⌜ Room 65535 (now acc) ⌝ }
+    requires { ⌜ Headroom 65535 (now acc) ⌝ }
     ensures { λ r. ⌜ stages.Poured (now (acc .entry)) (now (short .entry)) left rows (now (acc .exit)) (now (short .exit)) r ⌝ }
 {
     if 0 < left {
