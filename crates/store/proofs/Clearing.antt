@@ -1,11 +1,12 @@
--- A column cleared from the rows above, and the equation put in as its row.
+-- A column cleared from the rows above, and the equation inserted as its row.
 --     Cleared                the state of a loop over the rows above row k: r of them are cleared, the others are as they were
 --     cleared-none, cleared-next, cleared-all       before the first row, a row more, and after the last
---     cleared-residues       the row that is cleared next has residues
+--     cleared-start          after the last row, the next one is row k
+--     clears-at, cleared-residues     the row that is cleared next: where it stands, and that it has residues
 --     pivot-length, pivot-line, pivot-at, pivot-before      the pivot: its places are the normal equation's
 --     front-cut, front-residues     its part from column k on, as the code lends it
---     row-put                with row k written, the store is `put`
--- The rows below row k have 0 in column k, since they are zero left of their diagonal, so `put` leaves them as they are.
+--     row-inserted           with row k written, the store is `inserted`
+-- The rows below row k have 0 in column k, since they are zero left of their diagonal, so `inserted` leaves them as they are.
 -- Assumes nothing.
 use mathlib.Core.Path.{_≡_, refl, sym, ap, ap₂, subst⁻¹, _∙_}
 use mathlib.Core.Logic.{_≢_}
@@ -24,80 +25,86 @@ use Rattle.field.specs.Residues.{Residues, inverse}
 use Rattle.field.specs.Rows.{multiple, plusMultiple}
 use Rattle.field.proofs.Ranges.{residues-tab}
 use Rattle.field.proofs.Modular.{cong-of}
-use Rattle.store.specs.Elimination.{ZeroRow, Reduced, normal, put, cells, flat}
+use Rattle.store.specs.Elimination.{ZeroRow, Reduced, normal, inserted, storeSize, rowStart, cells, flat}
 use Rattle.store.specs.Stages.{Line, cleared}
 use Rattle.store.proofs.Bytes.{flat-length, cells-flat, flat-cells, flat-ext}
-use Rattle.store.proofs.Putting.{put-here, put-there}
-use Rattle.store.proofs.Pasting.{rowTail, tailPasted, tail-length, tail-at, tail-residues, tail-size, tail-row, tail-left, tail-other}
-use Rattle.store.proofs.Deferring.{left-zero}
+use Rattle.store.proofs.ReducedForm.{left-zero}
+use Rattle.store.proofs.Inserting.{inserted-here, inserted-there}
+use Rattle.store.proofs.RowStarts.{start-zero, start-next}
+use Rattle.store.proofs.Pasting.{RowAt, rowTail, tailPasted, tail-length, tail-at, tail-residues, tail-size, tail-row, tail-left, tail-other}
 
 -- a multiple of p added to a residue
 nothing : (p x y : ℕ) → x < p → (x + p * y) % p ≡ x
 nothing p x y l = cong-of p (x + p * y) x 0 y (omega arith) ∙ mod-eq-of-lt l
 
-pub record Cleared (p C : ℕ) (S : ℕ → ℕ → ℕ) (N : ℕ → ℕ) (k r : ℕ) (store : List ℕ) : Type 0 where
+pub record Cleared (p C : ℕ) (S : ℕ → ℕ → ℕ) (N : ℕ → ℕ) (k r begin : ℕ) (store : List ℕ) : Type 0 where
   pub within : r ≤ k
-  pub places : length store ≡ C * (C + 1)
+  pub begins : begin ≡ rowStart C r
+  pub places : length store ≡ storeSize C
   pub done : (q j : ℕ) → q < C → j ≤ C → q < r → cells C store q j ≡ (S q j + (p - S q k) * N j) % p
   pub rest : (q j : ℕ) → q < C → j ≤ C → r ≤ q → cells C store q j ≡ S q j
 
-pub cleared-none : (p C : ℕ) (N : ℕ → ℕ) (k : ℕ) (store : List ℕ) → length store ≡ C * (C + 1) → Cleared p C (cells C store) N k 0 store
+pub cleared-none : (p C : ℕ) (N : ℕ → ℕ) (k : ℕ) (store : List ℕ) → length store ≡ storeSize C → Cleared p C (cells C store) N k 0 0 store
 cleared-none p C N k store e =
-    record { within = omega arith; places = e; done = λ q j l h b. absurd (omega arith); rest = λ q j l h b. refl }
+    record { within = omega arith; begins = sym (start-zero C); places = e; done = λ q j l h b. absurd (omega arith); rest = λ q j l h b. refl }
 
-module _ (p C : ℕ) (S : ℕ → ℕ → ℕ) (pivot : List ℕ) (k : ℕ) (red : Reduced p C S) (line : Line p C pivot) (column : k < C) where
+module _ {p C : ℕ} {S : ℕ → ℕ → ℕ} {pivot : List ℕ} {k : ℕ} (red : Reduced p C S) (line : Line p C pivot) (column : k < C) where
   pub cut-length : length (take (C + 1 - k) (drop k pivot)) ≡ C + 1 - k
   cut-length = part-length pivot k (C + 1 - k) (omega (arith, line .places))
 
-  module _ {r : ℕ} {store : List ℕ} (w : Cleared p C S (at pivot) k r store) (l : r < k) where
+  module _ {r begin : ℕ} {store : List ℕ} (w : Cleared p C S (at pivot) k r begin store) (l : r < k) where
     inside : r < C
     inside = omega arith
 
-    pub cleared-residues : 0 < p → Residues p (rowTail C store (r * (C + 1)) k)
+    pub clears-at : RowAt C store r begin
+    clears-at = record { size = w .places; inside = inside; begins = w .begins }
+
+    abbrev tail : List ℕ
+    tail = rowTail C store begin k
+
+    pub cleared-residues : 0 < p → Residues p (rowTail C store begin k)
     cleared-residues pos =
-        tail-residues C store r k (r * (C + 1)) (w .places) inside (le-of-lt column) refl p pos
-        (λ j h. rw (w .rest r j inside h (omega arith)) (red .residues r j inside h))
+        tail-residues clears-at (le-of-lt column) p pos (λ j h. rw (w .rest r j inside h (omega arith)) (red .residues r j inside h))
 
-    module _ (before : (j : ℕ) → j < k → at pivot j ≡ 0) (ys : List ℕ)
-        (turn : ys ≡ plusMultiple p (p - at (rowTail C store (r * (C + 1)) k) 0) (rowTail C store (r * (C + 1)) k) (take (C + 1 - k) (drop k pivot))) where
-      tail-place : (i : ℕ) → i < C + 1 - k → at (rowTail C store (r * (C + 1)) k) i ≡ S r (k + i)
-      tail-place i h =
-          tail-at C store r k (r * (C + 1)) (w .places) inside (le-of-lt column) refl i h ∙ w .rest r (k + i) inside (omega arith) (omega arith)
+    module _ (before : (j : ℕ) → j < k → at pivot j ≡ 0) (ys : List ℕ) (turn : ys ≡ plusMultiple p (p - at tail 0) tail (take (C + 1 - k) (drop k pivot))) where
+      tail-place : (i : ℕ) → i < C + 1 - k → at tail i ≡ S r (k + i)
+      tail-place i h = tail-at clears-at (le-of-lt column) i h ∙ w .rest r (k + i) inside (omega arith) (omega arith)
 
-      count : length (rowTail C store (r * (C + 1)) k) ≡ C + 1 - k
-      count = tail-length C store r k (r * (C + 1)) (w .places) inside (le-of-lt column) refl
+      count : length tail ≡ C + 1 - k
+      count = tail-length clears-at (le-of-lt column)
 
       size : length ys ≡ C + 1 - k
-      size = ap length turn ∙ tab-length (length (rowTail C store (r * (C + 1)) k)) (λ j. (at (rowTail C store (r * (C + 1)) k) j + (p - at (rowTail C store (r * (C + 1)) k) 0) * at (take (C + 1 - k) (drop k pivot)) j) % p) ∙ count
+      size = ap length turn ∙ tab-length (length tail) (λ j. (at tail j + (p - at tail 0) * at (take (C + 1 - k) (drop k pivot)) j) % p) ∙ count
 
       place : (i : ℕ) → i < C + 1 - k → at ys i ≡ (S r (k + i) + (p - S r k) * at pivot (k + i)) % p
       place i h =
           ap (λ (xs : List ℕ). at xs i) turn
-          ∙ tab-at (length (rowTail C store (r * (C + 1)) k)) (λ j. (at (rowTail C store (r * (C + 1)) k) j + (p - at (rowTail C store (r * (C + 1)) k) 0) * at (take (C + 1 - k) (drop k pivot)) j) % p) 0 i (rw count h)
+          ∙ tab-at (length tail) (λ j. (at tail j + (p - at tail 0) * at (take (C + 1 - k) (drop k pivot)) j) % p) 0 i (rw count h)
           ∙ ap₂ (λ (a b : ℕ). (a + (p - b) * at (take (C + 1 - k) (drop k pivot)) i) % p) (tail-place i h) (tail-place 0 (omega arith) ∙ ap (S r) (add-zero k))
           ∙ ap (λ (a : ℕ). (S r (k + i) + (p - S r k) * a) % p) (part-at pivot k (C + 1 - k) i h)
 
-      row : (j : ℕ) → j ≤ C → cells C (tailPasted C store (r * (C + 1)) k ys) r j ≡ (S r j + (p - S r k) * at pivot j) % p
+      row : (j : ℕ) → j ≤ C → cells C (tailPasted C store begin k ys) r j ≡ (S r j + (p - S r k) * at pivot j) % p
       row j h = elim (decLt j k) [
         | yes b ↦
-            tail-left C store r k (r * (C + 1)) (w .places) inside (le-of-lt column) refl ys size j b
+            tail-left clears-at (le-of-lt column) ys size j b
             ∙ w .rest r j inside h (omega arith)
             ∙ rw (before j b, mul-zero (p - S r k), add-zero (S r j)) (sym (mod-eq-of-lt (red .residues r j inside h)))
         | no b ↦
             let e : k + (j - k) ≡ j = omega arith in
-            tail-row C store r k (r * (C + 1)) (w .places) inside (le-of-lt column) refl ys size j (omega arith) h
+            tail-row clears-at (le-of-lt column) ys size j (omega arith) h
             ∙ place (j - k) (omega arith)
             ∙ ap (λ (i : ℕ). (S r i + (p - S r k) * at pivot i) % p) e
       ]
 
-      other : (q j : ℕ) → q ≢ r → j ≤ C → cells C (tailPasted C store (r * (C + 1)) k ys) q j ≡ cells C store q j
-      other = tail-other C store r k (r * (C + 1)) (w .places) inside (le-of-lt column) refl ys size
+      other : (q j : ℕ) → q ≢ r → j ≤ C → cells C (tailPasted C store begin k ys) q j ≡ cells C store q j
+      other = tail-other clears-at (le-of-lt column) ys size
 
-      pub cleared-next : Cleared p C S (at pivot) k (r + 1) (tailPasted C store (r * (C + 1)) k ys)
+      pub cleared-next : Cleared p C S (at pivot) k (r + 1) (begin + (C + 1)) (tailPasted C store begin k ys)
       cleared-next =
           record {
             within = omega arith;
-            places = tail-size C store r k (r * (C + 1)) (w .places) inside (le-of-lt column) refl ys size ∙ w .places;
+            begins = omega (arith, w .begins, start-next C r);
+            places = tail-size clears-at (le-of-lt column) ys size ∙ w .places;
             done = λ q j a h b. elim (ℕ-discrete q r) [
               | yes e ↦ rw e (row j h)
               | no d ↦ other q j d h ∙ w .done q j a h (omega arith)
@@ -105,16 +112,19 @@ module _ (p C : ℕ) (S : ℕ → ℕ → ℕ) (pivot : List ℕ) (k : ℕ) (red
             rest = λ q j a h b. let d : q ≢ r = (λ e. omega arith) in other q j d h ∙ w .rest q j a h (omega arith);
           }
 
-pub cleared-all : {p C : ℕ} {S : ℕ → ℕ → ℕ} {N : ℕ → ℕ} {k r : ℕ} {store : List ℕ} → Cleared p C S N k r store → k ≤ r
-    → store ≡ flat C (cleared p S N k)
-unfolding cleared
-cleared-all {p} {C} {S} {N} {k} {r} {store} w h =
-    sym (flat-cells C store (w .places))
-    ∙ flat-ext C (cells C store) (cleared p S N k)
-    (λ q j l b. elim (decLt q k) [
-      | yes a ↦ w .done q j l b (omega arith) ∙ rw (lt-ltb q k a)
-      | no a ↦ let a′ : k ≤ q = omega arith in w .rest q j l b (omega arith) ∙ rw (le-ltb q k a′)
-    ])
+module _ {p C : ℕ} {S : ℕ → ℕ → ℕ} {N : ℕ → ℕ} {k r begin : ℕ} {store : List ℕ} (w : Cleared p C S N k r begin store) (h : k ≤ r) where
+  pub cleared-start : begin ≡ rowStart C k
+  cleared-start = let e : r ≡ k = omega (arith, w .within) in w .begins ∙ ap (rowStart C) e
+
+  pub cleared-all : store ≡ flat C (cleared p S N k)
+  unfolding cleared
+  cleared-all =
+      sym (flat-cells C store (w .places))
+      ∙ flat-ext C (cells C store) (cleared p S N k)
+      (λ q j l b. elim (decLt q k) [
+        | yes a ↦ w .done q j l b (omega arith) ∙ rw (lt-ltb q k a)
+        | no a ↦ let a′ : k ≤ q = omega arith in w .rest q j l b (omega (arith, w .within)) ∙ rw (le-ltb q k a′)
+      ])
 
 -- the pivot, as the residual's multiple leaves it
 module _ (p C : ℕ) (res : List ℕ) (g : ℕ) (pivot : List ℕ) (line : Line p C res) (pos : 0 < p) (h : pivot ≡ multiple p g res) where
@@ -156,20 +166,22 @@ module _ (C k : ℕ) (pivot rest : List ℕ) (places : length pivot ≡ C + 1) (
 
 module _ (p C : ℕ) (S : ℕ → ℕ → ℕ) (N : ℕ → ℕ) (k : ℕ) (red : Reduced p C S) (column : k < C) (free : ZeroRow C S k)
     (small : (j : ℕ) → N j < p) (before : (j : ℕ) → j < k → N j ≡ 0) where
-  pub row-put : (whole store ys : List ℕ) → C + 1 ≤ length whole → ((j : ℕ) → j ≤ C → at (take (C + 1) whole) j ≡ N j)
+  pub row-inserted : (whole store ys : List ℕ) (begin : ℕ) → begin ≡ rowStart C k → C + 1 ≤ length whole
+      → ((j : ℕ) → j ≤ C → at (take (C + 1) whole) j ≡ N j)
       → store ≡ flat C (cleared p S (at (take (C + 1) whole)) k) → ys ≡ multiple p 1 (take (C + 1 - k) (drop k whole))
-      → tailPasted C store (k * (C + 1)) k ys ≡ flat C (put p S N k)
+      → tailPasted C store begin k ys ≡ flat C (inserted p S N k)
   unfolding cleared
-  row-put whole store ys long pivots h turn =
-      sym (flat-cells C (tailPasted C store (k * (C + 1)) k ys) (tail-size C store k k (k * (C + 1)) places column (le-of-lt column) refl ys size ∙ places))
-      ∙ flat-ext C (cells C (tailPasted C store (k * (C + 1)) k ys)) (put p S N k)
+  row-inserted whole store ys begin begins long pivots h turn =
+      sym (flat-cells C (tailPasted C store begin k ys) (tail-size at-row (le-of-lt column) ys size ∙ at-row .size))
+      ∙ flat-ext C (cells C (tailPasted C store begin k ys)) (inserted p S N k)
       (λ q j l b. elim (ℕ-discrete q k) [
-        | yes e ↦ rw e (row j b ∙ sym (put-here p S N k k j refl))
-        | no d ↦ tail-other C store k k (k * (C + 1)) places column (le-of-lt column) refl ys size q j d b ∙ other q j l b d ∙ sym (put-there p S N k q j d)
+        | yes e ↦ rw e (row j b ∙ sym (inserted-here p S N k k j refl))
+        | no d ↦ tail-other at-row (le-of-lt column) ys size q j d b ∙ other q j l b d ∙ sym (inserted-there p S N k q j d)
       ])
     where
-      places : length store ≡ C * (C + 1)
-      places = ap length h ∙ flat-length C (cleared p S (at (take (C + 1) whole)) k)
+      at-row : RowAt C store k begin
+      at-row =
+          record { size = ap length h ∙ flat-length C (cleared p S (at (take (C + 1) whole)) k); inside = column; begins = begins }
 
       cut : length (take (C + 1 - k) (drop k whole)) ≡ C + 1 - k
       cut = part-length whole k (C + 1 - k) (omega arith)
@@ -191,14 +203,14 @@ module _ (p C : ℕ) (S : ℕ → ℕ → ℕ) (N : ℕ → ℕ) (k : ℕ) (red 
       was : (q j : ℕ) → q < C → j ≤ C → cells C store q j ≡ cleared p S (at (take (C + 1) whole)) k q j
       was q j l b = ap (λ (xs : List ℕ). cells C xs q j) h ∙ cells-flat C (cleared p S (at (take (C + 1) whole)) k) q j l b
 
-      row : (j : ℕ) → j ≤ C → cells C (tailPasted C store (k * (C + 1)) k ys) k j ≡ N j
+      row : (j : ℕ) → j ≤ C → cells C (tailPasted C store begin k ys) k j ≡ N j
       row j b = elim (decLt j k) [
         | yes a ↦
-            tail-left C store k k (k * (C + 1)) places column (le-of-lt column) refl ys size j a
+            tail-left at-row (le-of-lt column) ys size j a
             ∙ was k j column b ∙ rw (le-ltb k k (omega arith)) (free j b ∙ sym (before j a))
         | no a ↦
             let e : k + (j - k) ≡ j = omega arith in
-            tail-row C store k k (k * (C + 1)) places column (le-of-lt column) refl ys size j (omega arith) b ∙ place (j - k) (omega arith) ∙ ap N e
+            tail-row at-row (le-of-lt column) ys size j (omega arith) b ∙ place (j - k) (omega arith) ∙ ap N e
       ]
 
       other : (q j : ℕ) → q < C → j ≤ C → q ≢ k → cells C store q j ≡ (S q j + (p - S q k) * N j) % p

@@ -2,8 +2,8 @@
 --     above-one, positive     a prime is above 1, and above 0
 --     Equation p C e      the places 0 to C of e are residues
 --     normal-fits         the residual made normal fits in as row c, if c is the residual's first nonzero column
---     filed-reduced       a filing keeps reduced form
---     filed-solves        if it is no contradiction, the solutions left are the old ones that satisfy e
+--     resolved-reduced       a filing keeps reduced form
+--     resolved-solves        if it is no contradiction, the solutions left are the old ones that satisfy e
 --     after-reduced, after-solves     the same of `after`
 -- The residual's first nonzero column is no pivot's, since there the residual is zero, so its row is free.
 -- Assumes nothing.
@@ -15,11 +15,11 @@ use native.Mathlib.Nat.{le-of-lt}
 use native.Mathlib.Omega.{arith}
 use Rattle.field.specs.Primes.{oddPrime}
 use Rattle.field.proofs.PrimeTable.{oddPrime-means}
-use Rattle.store.specs.Elimination.{Satisfies, Solves, Pivot, Reduced, Outcome, contradiction, residual, normal, put, outcome, after}
+use Rattle.store.specs.Elimination.{Satisfies, Solves, Pivot, Reduced, Outcome, contradiction, residual, normal, inserted, outcome, after}
 use Rattle.store.proofs.Combinations.{satisfies-zero}
 use Rattle.store.proofs.Residuals.{residual-small, residual-pivot, residual-satisfies, normal-small, normal-zero, normal-one, normal-satisfies}
-use Rattle.store.proofs.Answers.{Filed, filed-new, filed-implied, filed-contradiction, filed}
-use Rattle.store.proofs.Putting.{Fits, put-reduced, put-solves}
+use Rattle.store.proofs.Answers.{Resolved, resolved-new, resolved-implied, resolved-contradiction, resolves}
+use Rattle.store.proofs.Inserting.{Fits, inserted-reduced, inserted-solves}
 
 pub above-one : (p : ℕ) → oddPrime p ≡ true → 1 < p
 above-one p prime = omega (arith, oddPrime-means p .0 prime .0)
@@ -49,14 +49,14 @@ module _ (p C : ℕ) (prime : oddPrime p ≡ true) (S : ℕ → ℕ → ℕ) (e 
       at-pivot : (q : ℕ) → q < C → Pivot C S q → R q ≡ 0
       at-pivot q k v = residual-pivot p C S e q k (eqn q (le-of-lt k)) v
 
-  pub filed-reduced : {o : Outcome} {T : ℕ → ℕ → ℕ} → Filed p C S e o T → Reduced p C T
-  filed-reduced (filed-new c l b d) = put-reduced p C S (normal p (residual p C S e) c) c (above-one p prime) red (normal-fits c l b d)
-  filed-reduced (filed-implied z) = red
-  filed-reduced (filed-contradiction z d) = red
+  pub resolved-reduced : {o : Outcome} {T : ℕ → ℕ → ℕ} → Resolved p C S e o T → Reduced p C T
+  resolved-reduced (resolved-new c l b d) = inserted-reduced p C S (normal p (residual p C S e) c) c (above-one p prime) red (normal-fits c l b d)
+  resolved-reduced (resolved-implied z) = red
+  resolved-reduced (resolved-contradiction z d) = red
 
-  pub filed-solves : {o : Outcome} {T : ℕ → ℕ → ℕ} → Filed p C S e o T → o ≢ contradiction → (β : ℕ → ℕ)
+  pub resolved-solves : {o : Outcome} {T : ℕ → ℕ → ℕ} → Resolved p C S e o T → o ≢ contradiction → (β : ℕ → ℕ)
       → Solves p C T β ↔ (Solves p C S β × Satisfies p C e β)
-  filed-solves (filed-new c l b d) n β = (
+  resolved-solves (resolved-new c l b d) n β = (
     (λ s. let t = row .0 s in (t .0, residual-satisfies p C S e β (t .0) .0 (scaled .0 (t .1)))),
     (λ s. row .1 (s .0, scaled .1 (residual-satisfies p C S e β (s .0) .1 (s .1)))),
   )
@@ -64,19 +64,19 @@ module _ (p C : ℕ) (prime : oddPrime p ≡ true) (S : ℕ → ℕ → ℕ) (e 
       R : ℕ → ℕ
       R = residual p C S e
 
-      row : Solves p C (put p S (normal p R c) c) β ↔ (Solves p C S β × Satisfies p C (normal p R c) β)
-      row = put-solves p C S (normal p R c) c (above-one p prime) red (normal-fits c l b d) β
+      row : Solves p C (inserted p S (normal p R c) c) β ↔ (Solves p C S β × Satisfies p C (normal p R c) β)
+      row = inserted-solves p C S (normal p R c) c (above-one p prime) red (normal-fits c l b d) β
 
       scaled : Satisfies p C (normal p R c) β ↔ Satisfies p C R β
       scaled = normal-satisfies p C prime R c d (residual-small p C S e c (positive p prime)) β
-  filed-solves (filed-implied z) n β = (
+  resolved-solves (resolved-implied z) n β = (
     (λ s. (s, residual-satisfies p C S e β s .0 (satisfies-zero p C β (residual p C S e) z))),
     (λ s. s .0),
   )
-  filed-solves (filed-contradiction z d) n β = absurd (n refl)
+  resolved-solves (resolved-contradiction z d) n β = absurd (n refl)
 
   pub after-reduced : Reduced p C (after p C S e)
-  after-reduced = filed-reduced (filed p C S e)
+  after-reduced = resolved-reduced (resolves p C S e)
 
   pub after-solves : outcome p C S e ≢ contradiction → (β : ℕ → ℕ) → Solves p C (after p C S e) β ↔ (Solves p C S β × Satisfies p C e β)
-  after-solves = filed-solves (filed p C S e)
+  after-solves = resolved-solves (resolves p C S e)

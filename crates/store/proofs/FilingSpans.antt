@@ -2,7 +2,7 @@
 --     residual-combined        the residual is a sum of multiples of the old rows and the equation
 --     normal-combined          so is the residual made normal
 --     old-combined             so is each old row
---     filed-combined           so is each row that a filing leaves
+--     resolved-combined           so is each row that a filing leaves
 --     after-span               the theorem
 -- The rows that a filing leaves are made as such sums. The other way round, every solution of the store that is left satisfies the old rows
 -- and the equation, and that store is reduced: so those are sums of multiples of its rows (`implied-combined`).
@@ -20,10 +20,10 @@ use Rattle.lists.specs.Places.{sum, at}
 use Rattle.lists.proofs.Sums.{sum-next, sum-ext}
 use Rattle.field.specs.Primes.{oddPrime}
 use Rattle.field.specs.Residues.{inverse}
-use Rattle.store.specs.Elimination.{Satisfies, Solves, Reduced, Outcome, contradiction, residual, normal, put, outcome, after}
+use Rattle.store.specs.Elimination.{Satisfies, Solves, Reduced, Outcome, contradiction, residual, normal, inserted, outcome, after}
 use Rattle.store.specs.Span.{Combined, SameSpan, withRow}
-use Rattle.store.proofs.Putting.{put-here, put-there}
-use Rattle.store.proofs.Answers.{Filed, filed-new, filed-implied, filed-contradiction, filed}
+use Rattle.store.proofs.Inserting.{inserted-here, inserted-there}
+use Rattle.store.proofs.Answers.{Resolved, resolved-new, resolved-implied, resolved-contradiction, resolves}
 use Rattle.store.proofs.Filing.{Equation, after-reduced, after-solves}
 use Rattle.store.proofs.Spans.{combined-row, combined-cong, combined-mul, combined-add, implied-combined}
 
@@ -57,12 +57,12 @@ module _ (p C : ℕ) (S : ℕ → ℕ → ℕ) (e : ℕ → ℕ) where
       R : ℕ → ℕ
       R = residual p C S e
 
-  filed-combined : {o : Outcome} {T : ℕ → ℕ → ℕ} → Filed p C S e o T → (q : ℕ) → q < C → Combined p C (withRow C S e) (C + 1) (T q)
-  filed-combined (filed-new c l b d) q k = elim (ℕ-discrete q c) [
-    | yes i ↦ combined-cong p C W (C + 1) N (put p S N c q) (λ j m. ap (λ (x : ℕ). x % p) (put-here p S N c q j i)) (normal-combined c)
+  resolved-combined : {o : Outcome} {T : ℕ → ℕ → ℕ} → Resolved p C S e o T → (q : ℕ) → q < C → Combined p C (withRow C S e) (C + 1) (T q)
+  resolved-combined (resolved-new c l b d) q k = elim (ℕ-discrete q c) [
+    | yes i ↦ combined-cong p C W (C + 1) N (inserted p S N c q) (λ j m. ap (λ (x : ℕ). x % p) (inserted-here p S N c q j i)) (normal-combined c)
     | no i ↦
-        combined-cong p C W (C + 1) (λ j. S q j + (p - S q c) * N j) (put p S N c q)
-        (λ j m. ap (λ (x : ℕ). x % p) (put-there p S N c q j i) ∙ mod-mod (S q j + (p - S q c) * N j) p)
+        combined-cong p C W (C + 1) (λ j. S q j + (p - S q c) * N j) (inserted p S N c q)
+        (λ j m. ap (λ (x : ℕ). x % p) (inserted-there p S N c q j i) ∙ mod-mod (S q j + (p - S q c) * N j) p)
         (combined-add p C W (C + 1) (S q) (λ j. (p - S q c) * N j) (old-combined q k) (combined-mul p C W (C + 1) (p - S q c) N (normal-combined c)))
   ]
     where
@@ -71,13 +71,13 @@ module _ (p C : ℕ) (S : ℕ → ℕ → ℕ) (e : ℕ → ℕ) where
 
       N : ℕ → ℕ
       N = normal p (residual p C S e) c
-  filed-combined (filed-implied z) q k = old-combined q k
-  filed-combined (filed-contradiction z d) q k = old-combined q k
+  resolved-combined (resolved-implied z) q k = old-combined q k
+  resolved-combined (resolved-contradiction z d) q k = old-combined q k
 
 pub after-span : (p C : ℕ) → oddPrime p ≡ true → (S : ℕ → ℕ → ℕ) (e : ℕ → ℕ) → Reduced p C S → Equation p C e → outcome p C S e ≢ contradiction
     → SameSpan p C (after p C S e) C (withRow C S e) (C + 1)
 after-span p C prime S e red eqn kept = (
-  filed-combined p C S e (filed p C S e),
+  resolved-combined p C S e (resolves p C S e),
   (λ q l. elim (decLt q C) [
     | yes k ↦
         rw (lt-ltb q C k)

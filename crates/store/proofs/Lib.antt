@@ -1,11 +1,12 @@
--- The theory of elimination, which knows the definitions of specs/ and no code; then, from Zeros on, the laws of the code's loops; last, from
+-- The theory of elimination, which knows the definitions of specs/ and no code; then, from Pasting on, the laws of the code's loops; last, from
 -- StoreCalls on, what holds of the calls.
 pub mod Leads
+pub mod RowStarts
 pub mod Bytes
 pub mod Combinations
 pub mod ReducedForm
 pub mod Residuals
-pub mod Putting
+pub mod Inserting
 pub mod Answers
 pub mod Filing
 pub mod SamePlaces
@@ -15,7 +16,6 @@ pub mod Implications
 pub mod Uniqueness
 pub mod Spans
 pub mod FilingSpans
-pub mod Zeros
 pub mod Pasting
 pub mod OneReading
 pub mod Multiples

@@ -4,7 +4,7 @@
 --     good-of, reduced-of       a store is in reduced form exactly when each row is good
 --     Passed              the state with q rows to go: those from q on are good, and the bounds are those for the rows above
 --     passed-none, passed-next, passed-not, passed-all       before the first row; a row that fits; one that does not; after the last
---     row-begin, row-end, row-length, passed-length       a row's part of the store, and the bounds' length after it
+--     row-begin, row-within, row-length, passed-length       a row's part of the store, and the bounds' length after it
 -- A row with a 1 on the diagonal has nothing below it in that column, since the rows below are zero left of their diagonal.
 -- Assumes nothing.
 use mathlib.Core.Path.{_≡_, refl, sym, ap, ap₂, _∙_}
@@ -12,7 +12,7 @@ use mathlib.Core.Bool.{true, false, false≢true, not-eq-not}
 use mathlib.Core.Logic.{_⊎_, inl, inr, ⊎-elim, ⊎-map, _≢_}
 use mathlib.Core.List.{List}
 use Prim.Native.Nat.{ℕ, _+_, _-_, _*_, _≤_, _<_}
-use native.Mathlib.Nat.{le-of-lt, mul-le-mul-right}
+use native.Mathlib.Nat.{le-of-lt}
 use native.Mathlib.Decide.{decLt, ℕ-discrete}
 use native.Mathlib.Omega.{arith}
 use lib.Dec.{leb, ltb}
@@ -23,8 +23,9 @@ use Rattle.lists.specs.Places.{every, tab, at}
 use Rattle.lists.proofs.Tests.{every-at, every-of}
 use Rattle.lists.proofs.Tabs.{tab-length, tab-at}
 use Rattle.lists.proofs.Parts.{part-length, part-at, at-past}
-use Rattle.store.specs.Elimination.{ZeroRow, Pivot, Reduced, isReduced, cells}
+use Rattle.store.specs.Elimination.{ZeroRow, Pivot, Reduced, isReduced, storeSize, rowStart, cells}
 use Rattle.store.specs.Reading.{bound, rowFits}
+use Rattle.store.proofs.RowStarts.{start-next, start-last, row-end}
 use Rattle.store.proofs.ReducedForm.{isReduced-means}
 
 -- row r, where it is not zero
@@ -94,21 +95,21 @@ rowTo C store end = take (end - (end - (C + 1))) (drop (end - (C + 1)) store)
 
 pub record Passed (p C : ℕ) (store : List ℕ) (q begin : ℕ) (bounds : List ℕ) : Type 0 where
   pub within : q ≤ C
-  pub begins : begin ≡ q * (C + 1)
+  pub begins : begin ≡ rowStart C q
   pub places : length bounds ≡ C + 1
   pub before : (j : ℕ) → j < q → at bounds j ≡ 0
   pub from : (j : ℕ) → q ≤ j → j ≤ C → at bounds j ≡ bound p (cells C store j j)
   pub rows : (r : ℕ) → q ≤ r → r < C → Good p C (cells C store) r
 
-module _ (p C : ℕ) (store : List ℕ) (low : 2 ≤ p) (fits : length store ≡ C * (C + 1)) where
+module _ (p C : ℕ) (store : List ℕ) (low : 2 ≤ p) (fits : length store ≡ storeSize C) where
   last : cells C store C C ≡ 0
-  last = at-past store (C * (C + 1) + C) (omega arith)
+  last = at-past store (rowStart C C + C) (omega (arith, start-last C))
 
-  pub passed-none : (bounds : List ℕ) → bounds ≡ tab (C + 1) (λ _. 0) → Passed p C store C (C * (C + 1)) (set bounds C (p - 1))
+  pub passed-none : (bounds : List ℕ) → bounds ≡ tab (C + 1) (λ _. 0) → Passed p C store C (length store) (set bounds C (p - 1))
   passed-none bounds z =
       record {
         within = omega arith;
-        begins = refl;
+        begins = fits ∙ sym (start-last C);
         places = length-set bounds C (p - 1) ∙ count;
         before = λ j l.
             getD-set-other bounds C j (p - 1) 0 (λ e. omega arith) ∙ ap (λ (xs : List ℕ). at xs j) z ∙ tab-at (C + 1) (λ _. 0) 0 j (omega arith);
@@ -125,14 +126,17 @@ module _ (p C : ℕ) (store : List ℕ) (low : 2 ≤ p) (fits : length store ≡
   passed-all w h = sym (isReduced-means p C (cells C store) .1 (reduced-of p C (cells C store) low (λ r l. w .rows r (omega arith) l)))
 
   module _ {q begin : ℕ} {bounds : List ℕ} (w : Passed p C store q begin bounds) (some : 0 < q) where
+    ends : begin ≡ rowStart C (q - 1) + (C + 1)
+    ends = let k : q ≡ q - 1 + 1 = omega arith in w .begins ∙ ap (rowStart C) k ∙ start-next C (q - 1)
+
     pub row-begin : C + 1 ≤ begin
-    row-begin = omega (arith, w .begins, mul-le-mul-right (C + 1) some)
+    row-begin = omega (arith, ends)
 
-    pub row-end : begin ≤ length store
-    row-end = omega (arith, w .begins, mul-le-mul-right (C + 1) (w .within))
+    pub row-within : begin ≤ length store
+    row-within = omega (arith, ends, row-end C (q - 1) (omega (arith, w .within)))
 
-    one-less : begin - (C + 1) ≡ (q - 1) * (C + 1)
-    one-less = let k : q - 1 + 1 ≡ q = omega arith in omega (arith, ap (λ (n : ℕ). n * (C + 1)) k, w .begins)
+    one-less : begin - (C + 1) ≡ rowStart C (q - 1)
+    one-less = omega (arith, ends)
 
     wide : begin - (begin - (C + 1)) ≡ C + 1
     wide = omega (arith, row-begin)
@@ -141,7 +145,7 @@ module _ (p C : ℕ) (store : List ℕ) (low : 2 ≤ p) (fits : length store ≡
     row = rowTo C store begin
 
     pub row-length : length row ≡ C + 1
-    row-length = part-length store (begin - (C + 1)) (begin - (begin - (C + 1))) (omega (arith, row-begin, row-end)) ∙ wide
+    row-length = part-length store (begin - (C + 1)) (begin - (begin - (C + 1))) (omega (arith, row-begin, row-within)) ∙ wide
 
     place : (j : ℕ) → j ≤ C → at row j ≡ cells C store (q - 1) j
     place j h = part-at store (begin - (C + 1)) (begin - (begin - (C + 1))) j (rw wide (omega arith)) ∙ ap (λ (n : ℕ). at store (n + j)) one-less

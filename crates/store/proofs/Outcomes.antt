@@ -18,14 +18,14 @@ use borrow.Author.Tests.{eq-eqb, ne-eqb, lt-ltb, le-ltb}
 use Rattle.lists.specs.Places.{tab, at}
 use Rattle.lists.proofs.Tabs.{tab-length, tab-at}
 use Rattle.field.proofs.Ranges.{residues-tab}
-use Rattle.store.specs.Elimination.{ZeroRow, Reduced, residual, lead, normal, put, outcome, after, cells, flat}
+use Rattle.store.specs.Elimination.{ZeroRow, Reduced, residual, lead, normal, inserted, outcome, after, storeSize, cells, flat}
 use Rattle.store.specs.Stages.{Line}
 use Rattle.store.specs.Calls.{answerOf, answered}
 use Rattle.store.specs.declared.elimination.Filed.the-variants.{New, Implied, Refused}
 use Rattle.store.proofs.Leads.{lead-ext, lead-before, lead-nonzero}
 use Rattle.store.proofs.Bytes.{flat-cells, flat-ext}
 use Rattle.store.proofs.Residuals.{residual-small, residual-pivot}
-use Rattle.store.proofs.SamePlaces.{normal-ext, put-ext}
+use Rattle.store.proofs.SamePlaces.{normal-ext, inserted-ext}
 
 module _ (p C : ℕ) (store : List ℕ) (e : ℕ → ℕ) (res rest : List ℕ) (h : res ≡ tab (C + 1) (residual p C (cells C store) e)) where
   count : length res ≡ C + 1
@@ -90,12 +90,12 @@ module _ (p C : ℕ) (store : List ℕ) (e : ℕ → ℕ) (k : ℕ) (g : k ≡ l
     new-answer = rw (sym g, lt-ltb k C l)
 
     pub new-store : (res : ℕ → ℕ) → ((j : ℕ) → j ≤ C → res j ≡ residual p C (cells C store) e j)
-        → flat C (put p (cells C store) (normal p res k) k) ≡ flat C (after p C (cells C store) e)
+        → flat C (inserted p (cells C store) (normal p res k) k) ≡ flat C (after p C (cells C store) e)
     unfolding after
     new-store res same =
         rw (sym g, lt-ltb k C l)
-        (flat-ext C (put p (cells C store) (normal p res k) k) (put p (cells C store) (normal p (residual p C (cells C store) e) k) k)
-        (put-ext p C (cells C store) (cells C store) (λ q j a b. refl) (normal p res k) (normal p (residual p C (cells C store) e) k) k l
+        (flat-ext C (inserted p (cells C store) (normal p res k) k) (inserted p (cells C store) (normal p (residual p C (cells C store) e) k) k)
+        (inserted-ext p C (cells C store) (cells C store) (λ q j a b. refl) (normal p res k) (normal p (residual p C (cells C store) e) k) k l
         (normal-ext p C res (residual p C (cells C store) e) k (le-of-lt l) same)))
 
   module _ (l : C ≤ k) where
@@ -107,6 +107,6 @@ module _ (p C : ℕ) (store : List ℕ) (e : ℕ → ℕ) (k : ℕ) (g : k ≡ l
     unfolding outcome
     implied-answer z = rw (sym g, le-ltb k C l, eq-eqb (residual p C (cells C store) e C) 0 z)
 
-    pub same-store : length store ≡ C * (C + 1) → store ≡ flat C (after p C (cells C store) e)
+    pub same-store : length store ≡ storeSize C → store ≡ flat C (after p C (cells C store) e)
     unfolding after
     same-store places = rw (sym g, le-ltb k C l) (sym (flat-cells C store places))

@@ -1,55 +1,29 @@
--- A list with its l places from a on overwritten by ys, as a part that was lent leaves it, read by place; and a store with the places
--- from column k on of one row overwritten.
---     pasted-length       the list keeps its length
---     pasted-before, pasted-within, pasted-after      the places before a, from a on, and after the part
---     rowTail, tail-end, tail-length, tail-at, tail-residues       a row from column k on, as the code cuts it, and its places
---     tailPasted          the store with a row from column k on overwritten, as the code leaves it
+-- A row of a store from column k on, as the code cuts it, and the store with such a part overwritten.
+--     RowAt               row q of the store stands from `begin` on
+--     row-fits            it ends within the store
+--     rowTail, tail-length, tail-at, tail-residues       the row from column k on, and its places
+--     tailPasted          the store with the row from column k on overwritten, as the code leaves it
 --     tail-size           its length
---     tail-row            in the row written, from column k on
---     tail-left           in the row written, left of column k
---     tail-other          in another row
+--     tail-row, tail-left, tail-other      its places: in the row written from column k on, left of column k, and in another row
 -- Assumes nothing.
-use mathlib.Core.Path.{_≡_, sym, ap, _∙_}
+use mathlib.Core.Path.{_≡_, sym, ap, ap₂, _∙_}
 use mathlib.Core.Logic.{_≢_}
 use mathlib.Core.List.{List, _++_}
-use Prim.Native.Nat.{ℕ, _+_, _-_, _*_, _≤_, _<_}
-use native.Mathlib.Nat.{mul-le-mul-right}
+use Prim.Native.Nat.{ℕ, _+_, _-_, _≤_, _<_}
 use native.Mathlib.Decide.{decLt}
 use native.Mathlib.Omega.{arith}
-use lib.ListN.{length, take, drop, length-append, length-drop, List·getD-append}
-use lib.Seq.{length-take-le, getD-append-add, getD-take, getD-drop}
-use Rattle.lists.specs.Places.{at}
+use lib.ListN.{length, take, drop}
+use Rattle.lists.specs.Places.{placed, at}
 use Rattle.lists.proofs.Parts.{part-length, part-at, at-past}
+use Rattle.lists.proofs.Placing.{placed-length, placed-before, placed-within, placed-after, lent-placed}
 use Rattle.field.specs.Residues.{Residues}
-use Rattle.store.specs.Elimination.{cells}
+use Rattle.store.specs.Elimination.{storeSize, rowStart, cells}
+use Rattle.store.proofs.RowStarts.{row-end, rows-apart}
 
-module _ (xs : List ℕ) (a l : ℕ) (ys : List ℕ) (room : a + l ≤ length xs) (same : length ys ≡ l) where
-  front : length (take a xs) ≡ a
-  front = length-take-le a xs (omega arith)
-
-  pub pasted-length : length (take a xs ++ (ys ++ drop l (drop a xs))) ≡ length xs
-  pasted-length = simp (length-append, length-drop) (omega (arith, front))
-
-  pub pasted-before : (i : ℕ) → i < a → at (take a xs ++ (ys ++ drop l (drop a xs))) i ≡ at xs i
-  pasted-before i h = List·getD-append (take a xs) (ys ++ drop l (drop a xs)) 0 i (rw front h) ∙ getD-take a xs i 0 h
-
-  pub pasted-within : (i : ℕ) → i < l → at (take a xs ++ (ys ++ drop l (drop a xs))) (a + i) ≡ at ys i
-  pasted-within i h =
-      ap (λ (n : ℕ). at (take a xs ++ (ys ++ drop l (drop a xs))) (n + i)) (sym front)
-      ∙ getD-append-add (take a xs) (ys ++ drop l (drop a xs)) i 0
-      ∙ List·getD-append ys (drop l (drop a xs)) 0 i (rw same h)
-
-  pub pasted-after : (i : ℕ) → a + l ≤ i → at (take a xs ++ (ys ++ drop l (drop a xs))) i ≡ at xs i
-  pasted-after i h =
-      let k : ℕ = i - (a + l) in
-      let e : length (take a xs) + (length ys + k) ≡ i = omega (arith, front) in
-      let e′ : a + (l + k) ≡ i = omega arith in
-      ap (at (take a xs ++ (ys ++ drop l (drop a xs)))) (sym e)
-      ∙ getD-append-add (take a xs) (ys ++ drop l (drop a xs)) (length ys + k) 0
-      ∙ getD-append-add ys (drop l (drop a xs)) k 0
-      ∙ getD-drop l (drop a xs) k 0
-      ∙ getD-drop a xs (l + k) 0
-      ∙ ap (at xs) e′
+pub record RowAt (C : ℕ) (store : List ℕ) (q begin : ℕ) : Type 0 where
+  pub size : length store ≡ storeSize C
+  pub inside : q < C
+  pub begins : begin ≡ rowStart C q
 
 abbrev pub rowTail : ℕ → List ℕ → ℕ → ℕ → List ℕ
 rowTail C store begin k = take (begin + (C + 1) - (begin + k)) (drop (begin + k) store)
@@ -57,54 +31,52 @@ rowTail C store begin k = take (begin + (C + 1) - (begin + k)) (drop (begin + k)
 abbrev pub tailPasted : ℕ → List ℕ → ℕ → ℕ → List ℕ → List ℕ
 tailPasted C store begin k ys = take (begin + k) store ++ (ys ++ drop (begin + (C + 1) - (begin + k)) (drop (begin + k) store))
 
-module _ (C : ℕ) (store : List ℕ) (r k begin : ℕ) (fits : length store ≡ C * (C + 1)) (l : r < C) (h : k ≤ C) (begins : begin ≡ r * (C + 1)) where
-  pub tail-end : begin + (C + 1) ≤ length store
-  tail-end = omega (arith, mul-le-mul-right (C + 1) l)
+module _ {C : ℕ} {store : List ℕ} {q begin : ℕ} (row : RowAt C store q begin) where
+  pub row-fits : begin + (C + 1) ≤ length store
+  row-fits = omega (arith, row-end C q (row .inside), row .size, row .begins)
 
-  width : begin + (C + 1) - (begin + k) ≡ C + 1 - k
-  width = omega arith
+  module _ {k : ℕ} (h : k ≤ C) where
+    width : begin + (C + 1) - (begin + k) ≡ C + 1 - k
+    width = omega arith
 
-  room : begin + k + (begin + (C + 1) - (begin + k)) ≤ length store
-  room = omega (arith, tail-end)
+    pub tail-length : length (rowTail C store begin k) ≡ C + 1 - k
+    tail-length = part-length store (begin + k) (begin + (C + 1) - (begin + k)) (omega (arith, row-fits)) ∙ width
 
-  pub tail-length : length (rowTail C store begin k) ≡ C + 1 - k
-  tail-length = part-length store (begin + k) (begin + (C + 1) - (begin + k)) room ∙ width
+    pub tail-at : (i : ℕ) → i < C + 1 - k → at (rowTail C store begin k) i ≡ cells C store q (k + i)
+    tail-at i b =
+        let e : begin + k + i ≡ rowStart C q + (k + i) = omega (arith, row .begins) in
+        part-at store (begin + k) (begin + (C + 1) - (begin + k)) i (rw width b) ∙ ap (at store) e
 
-  pub tail-at : (i : ℕ) → i < C + 1 - k → at (rowTail C store begin k) i ≡ cells C store r (k + i)
-  tail-at i b =
-      let e : begin + k + i ≡ r * (C + 1) + (k + i) = omega arith in
-      part-at store (begin + k) (begin + (C + 1) - (begin + k)) i (rw width b) ∙ ap (at store) e
-
-  pub tail-residues : (p : ℕ) → 0 < p → ((j : ℕ) → j ≤ C → cells C store r j < p) → Residues p (rowTail C store begin k)
-  tail-residues p pos small i = elim (decLt i (C + 1 - k)) [
-    | yes b ↦ rw (tail-at i b) (small (k + i) (omega arith))
-    | no b ↦ rw (at-past (rowTail C store begin k) i (rw tail-length (omega arith))) pos
-  ]
-
-  module _ (ys : List ℕ) (same : length ys ≡ C + 1 - k) where
-    same′ : length ys ≡ begin + (C + 1) - (begin + k)
-    same′ = same ∙ sym width
-
-    pub tail-size : length (tailPasted C store begin k ys) ≡ length store
-    tail-size = pasted-length store (begin + k) (begin + (C + 1) - (begin + k)) ys room same′
-
-    pub tail-row : (j : ℕ) → k ≤ j → j ≤ C → cells C (tailPasted C store begin k ys) r j ≡ at ys (j - k)
-    tail-row j low high =
-        let e : begin + k + (j - k) ≡ r * (C + 1) + j = omega arith in
-        ap (at (tailPasted C store begin k ys)) (sym e)
-        ∙ pasted-within store (begin + k) (begin + (C + 1) - (begin + k)) ys room same′ (j - k) (omega arith)
-
-    pub tail-left : (j : ℕ) → j < k → cells C (tailPasted C store begin k ys) r j ≡ cells C store r j
-    tail-left j low =
-        pasted-before store (begin + k) (begin + (C + 1) - (begin + k)) ys room same′ (r * (C + 1) + j) (omega arith)
-
-    pub tail-other : (q j : ℕ) → q ≢ r → j ≤ C → cells C (tailPasted C store begin k ys) q j ≡ cells C store q j
-    tail-other q j d i = elim (decLt q r) [
-      | yes b ↦
-          pasted-before store (begin + k) (begin + (C + 1) - (begin + k)) ys room same′ (q * (C + 1) + j)
-          (omega (arith, mul-le-mul-right (C + 1) b))
-      | no b ↦
-          let b′ : r + 1 ≤ q = omega arith in
-          pasted-after store (begin + k) (begin + (C + 1) - (begin + k)) ys room same′ (q * (C + 1) + j)
-          (omega (arith, mul-le-mul-right (C + 1) b′))
+    pub tail-residues : (p : ℕ) → 0 < p → ((j : ℕ) → j ≤ C → cells C store q j < p) → Residues p (rowTail C store begin k)
+    tail-residues p pos small i = elim (decLt i (C + 1 - k)) [
+      | yes b ↦ rw (tail-at i b) (small (k + i) (omega arith))
+      | no b ↦ rw (at-past (rowTail C store begin k) i (rw tail-length (omega arith))) pos
     ]
+
+    module _ (ys : List ℕ) (same : length ys ≡ C + 1 - k) where
+      room : begin + k + length ys ≤ length store
+      room = omega (arith, row-fits)
+
+      overwritten : tailPasted C store begin k ys ≡ placed store (begin + k) ys
+      overwritten = lent-placed store (begin + k) (begin + (C + 1) - (begin + k)) ys (same ∙ sym width)
+
+      pub tail-size : length (tailPasted C store begin k ys) ≡ length store
+      tail-size = ap length overwritten ∙ placed-length store (begin + k) ys room
+
+      pub tail-row : (j : ℕ) → k ≤ j → j ≤ C → cells C (tailPasted C store begin k ys) q j ≡ at ys (j - k)
+      tail-row j low high =
+          let e : rowStart C q + j ≡ begin + k + (j - k) = omega (arith, row .begins) in
+          ap₂ at overwritten e ∙ placed-within store (begin + k) ys room (j - k) (omega arith)
+
+      pub tail-left : (j : ℕ) → j < k → cells C (tailPasted C store begin k ys) q j ≡ cells C store q j
+      tail-left j low =
+          ap (λ (xs : List ℕ). cells C xs q j) overwritten
+          ∙ placed-before store (begin + k) ys room (rowStart C q + j) (omega (arith, row .begins))
+
+      pub tail-other : (r j : ℕ) → r ≢ q → j ≤ C → cells C (tailPasted C store begin k ys) r j ≡ cells C store r j
+      tail-other r j d i = ap (λ (xs : List ℕ). cells C xs r j) overwritten ∙ elim (decLt r q) [
+        | yes b ↦ placed-before store (begin + k) ys room (rowStart C r + j) (omega (arith, rows-apart C r q b, row .begins))
+        | no b ↦
+            let b′ : q < r = omega arith in
+            placed-after store (begin + k) ys room (rowStart C r + j) (omega (arith, rows-apart C q r b′, row .begins))
+      ]

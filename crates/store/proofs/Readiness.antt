@@ -24,12 +24,12 @@ use Rattle.plan.specs.Parts.{Lent}
 use Rattle.plan.specs.Rows.{entryCause}
 use Rattle.plan.proofs.Bounds.{modulus}
 use Rattle.plan.proofs.Refusals.{within-of, lent-of, none-met}
-use Rattle.store.specs.Elimination.{Solves, Reduced, isReduced, outcome, after, cells, flat}
+use Rattle.store.specs.Elimination.{Solves, Reduced, isReduced, outcome, after, storeSize, rowStart, cells, flat}
 use Rattle.store.specs.Filings.{empty, isContradiction}
 use Rattle.store.specs.Stages.{Ready}
 use Rattle.store.specs.Calls.{equation, emptyStore, storeFits, storeCause, valueCause, conflictCause, fileCauses, filed}
-use Rattle.store.proofs.Bytes.{flat-length, cells-flat}
-use Rattle.store.proofs.ReducedForm.{reduced-ext}
+use Rattle.store.proofs.Bytes.{flat-length}
+use Rattle.store.proofs.ReducedForm.{reduced-ext, flat-reduced}
 use Rattle.store.proofs.Combinations.{satisfies-zero}
 use Rattle.store.proofs.Filing.{positive, after-reduced}
 use Rattle.store.proofs.StoreCalls.{ready-of}
@@ -46,9 +46,9 @@ empty-ready P within =
     record {
       modulus = modulus within;
       limit = within .column-limit;
-      places = length-replicate (columns P * (columns P + 1)) 0;
+      places = length-replicate (storeSize (columns P)) 0;
       reduced = reduced-ext (P .p) (columns P) empty (cells (columns P) (emptyStore P))
-          (λ q j l k. sym (zeros-at (columns P * (columns P + 1)) (q * (columns P + 1) + j))) (empty-reduced (P .p) (columns P) (within .prime));
+          (λ q j l k. sym (zeros-at (storeSize (columns P)) (rowStart (columns P) q + j))) (empty-reduced (P .p) (columns P) (within .prime));
     }
 
 -- the four causes of filing after the plan's own, where the first met is none
@@ -78,7 +78,7 @@ module _ (P : Plan) (w T d S : List ℕ) (i v : ℕ) where
       record {
         within = within;
         lent = lent .0;
-        ready = ready-of P S within (eqb-true (length S) (columns P * (columns P + 1)) (lent .1))
+        ready = ready-of P S within (eqb-true (length S) (storeSize (columns P)) (lent .1))
             (not-false (isReduced (P .p) (columns P) (cells (columns P) S)) (own .0));
         below = ltb-true v (P .s) (not-false (ltb v (P .s)) (own .1));
         kept = own .2;
@@ -98,7 +98,7 @@ module _ (P : Plan) (w T d S : List ℕ) (i v : ℕ) where
         modulus = ready .modulus;
         limit = ready .limit;
         places = flat-length (columns P) T′;
-        reduced = reduced-ext (P .p) (columns P) T′ (cells (columns P) (flat (columns P) T′)) (λ q j a b. sym (cells-flat (columns P) T′ q j a b))
+        reduced = flat-reduced (P .p) (columns P) T′
             (after-reduced (P .p) (columns P) (within .prime) (cells (columns P) S) (equation P w T d i v) (ready .reduced)
             (λ j a. equation-line P w T d i within lent v l .residues j));
       }

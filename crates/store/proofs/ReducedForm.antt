@@ -4,6 +4,8 @@
 --     isPivot-means       the test of a pivot is a pivot
 --     isReduced-means     the test of reduced form is reduced form
 --     reduced-ext         reduced form depends on the places of the C rows alone
+--     flat-reads, flat-reduced      a reduced store's bytes are read as it is, so that they are a reduced store
+--     left-zero           left of its diagonal a row is zero
 --     off-pivot           for rows q and r, not the same, row q is zero in column r or row r is zero everywhere
 -- Assumes nothing.
 use mathlib.Core.Path.{_≡_, refl, sym, _∙_}
@@ -17,7 +19,8 @@ use lib.Dec.{eqb, ltb}
 use borrow.Author.Tests.{eq-eqb, eqb-true, lt-ltb, ltb-true}
 use Rattle.lists.specs.Places.{every}
 use Rattle.lists.proofs.Tests.{both, both-true, every-at, every-of}
-use Rattle.store.specs.Elimination.{ZeroRow, Pivot, Reduced, isZeroRow, isPivot, isReduced}
+use Rattle.store.specs.Elimination.{ZeroRow, Pivot, Reduced, isZeroRow, isPivot, isReduced, cells, flat}
+use Rattle.store.proofs.Bytes.{cells-flat}
 
 pub either-true : (a b : Bool) → (a || b) ≡ true → (a ≡ true) ⊎ (b ≡ true)
 either-true true b h = inl refl
@@ -113,6 +116,16 @@ reduced-ext p C S S′ h r =
           one = sym (h q q l (le-of-lt l)) ∙ v .one;
           others = λ i k d. sym (h i q k (le-of-lt l)) ∙ v .others i k d;
         }
+
+module _ (p C : ℕ) (S : ℕ → ℕ → ℕ) (red : Reduced p C S) where
+  pub flat-reads : (q j : ℕ) → q < C → j ≤ C → cells C (flat C S) q j ≡ S q j
+  flat-reads = cells-flat C S
+
+  pub flat-reduced : Reduced p C (cells C (flat C S))
+  flat-reduced = reduced-ext p C S (cells C (flat C S)) (λ q j l k. sym (flat-reads q j l k)) red
+
+  pub left-zero : (q j : ℕ) → q < C → j < q → S q j ≡ 0
+  left-zero q j l h = ⊎-elim (λ z. z j (omega arith)) (λ v. v .left j h) (red .rows q l)
 
 -- reduced form, of two rows
 pub off-pivot : (p C : ℕ) (S : ℕ → ℕ → ℕ) → Reduced p C S → (q r : ℕ) → q < C → r < C → q ≢ r → (S q r ≡ 0) ⊎ ZeroRow C S r

@@ -1,5 +1,5 @@
 -- The calls on a store: what a checked plan says of its store's size, and what filing answers and leaves by its refusal.
---     columns-small, square-small      C is at most 1,024, and the store's size fits
+--     columns-small                    C is at most 1,024
 --     ready-of                         a store that meets neither of causes 4 and 6 is ready for a filing
 --     refused-call                     a refusal is answered by its number, and leaves the store
 --     filed-call                       where the other causes are not met, cause 9 is whether the outcome is a contradiction, which leaves the store
@@ -8,7 +8,6 @@ use mathlib.Core.Path.{_≡_, refl, sym, ap, ap₂, _∙_}
 use mathlib.Core.Bool.{true, cond}
 use mathlib.Core.List.{List}
 use Prim.Native.Nat.{ℕ, _+_, _*_, _≤_, _<_}
-use native.Mathlib.Nat.{mul-le-mul}
 use native.Mathlib.Omega.{arith}
 use lib.ListN.{length}
 use Rattle.plan.specs.declared.numbers.Plan.{Plan}
@@ -16,7 +15,7 @@ use Rattle.plan.specs.Causes.{result, answer}
 use Rattle.plan.specs.Numbers.{columns, Within}
 use Rattle.plan.proofs.Bounds.{modulus}
 use Rattle.plan.proofs.Refusals.{result-refused, refused-answer}
-use Rattle.store.specs.Elimination.{Outcome, new, implied, contradiction, isReduced, outcome, cells, flat}
+use Rattle.store.specs.Elimination.{Outcome, new, implied, contradiction, isReduced, outcome, storeSize, cells, flat}
 use Rattle.store.specs.Filings.{isContradiction}
 use Rattle.store.specs.Stages.{Ready}
 use Rattle.store.specs.Calls.{equation, answerOf, valuesOf, answered, filed}
@@ -29,10 +28,7 @@ use Rattle.store.proofs.Answers.{contradiction-same}
 pub columns-small : {P : Plan} (n : ℕ) → Within P → n ≡ columns P → n ≤ 1024
 columns-small n within e = rw e (within .column-limit)
 
-pub square-small : (n : ℕ) → n ≤ 1024 → n * (n + 1) ≤ 1049600
-square-small n l = let l′ : n + 1 ≤ 1025 = omega arith in mul-le-mul l l′
-
-pub ready-of : (P : Plan) (store : List ℕ) → Within P → length store ≡ columns P * (columns P + 1)
+pub ready-of : (P : Plan) (store : List ℕ) → Within P → length store ≡ storeSize (columns P)
     → isReduced (P .p) (columns P) (cells (columns P) store) ≡ true → Ready (P .p) (columns P) store
 ready-of P store within places h =
     record {
@@ -46,7 +42,7 @@ ready-of P store within places h =
 pub refused-call : (F k : ℕ) (vs out old : List ℕ) → k ≡ F → 0 < k → (answerOf (Refused k) ≡ answer F vs) × (old ≡ result F out old)
 refused-call F k vs out old e l = let l′ : 0 < F = omega arith in (refused-answer k F vs e l, sym (result-refused F out old l′))
 
-filed-last : (P : Plan) (w T d store : List ℕ) (i v : ℕ) → length store ≡ columns P * (columns P + 1)
+filed-last : (P : Plan) (w T d store : List ℕ) (i v : ℕ) → length store ≡ storeSize (columns P)
     → filed P w T d store i v
     ≡ result (cond (isContradiction (outcome (P .p) (columns P) (cells (columns P) store) (equation P w T d i v))) 9 0) (filed P w T d store i v) store
 unfolding filed
@@ -62,7 +58,7 @@ filed-last P w T d store i v places =
     last contradiction h = h refl
 
 -- what the last return answers and leaves, where the other causes are not met
-pub filed-call : (P Q : Plan) (w T d store : List ℕ) (i v F : ℕ) (r : Filed) (out : List ℕ) → P ≡ Q → length store ≡ columns Q * (columns Q + 1)
+pub filed-call : (P Q : Plan) (w T d store : List ℕ) (i v F : ℕ) (r : Filed) (out : List ℕ) → P ≡ Q → length store ≡ storeSize (columns Q)
     → F ≡ cond (isContradiction (outcome (Q .p) (columns Q) (cells (columns Q) store) (equation Q w T d i v))) 9 0
     → answerOf r ≡ answered (outcome (Q .p) (columns Q) (cells (columns Q) store) (equation Q w T d i v)) → out ≡ filed Q w T d store i v
     → (answerOf r ≡ answer F (valuesOf (outcome (P .p) (columns P) (cells (columns P) store) (equation P w T d i v)))) × (out ≡ result F (filed P w T d store i v) store)

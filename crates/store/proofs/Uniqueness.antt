@@ -23,7 +23,7 @@ use Rattle.lists.specs.Places.{sum, at}
 use Rattle.field.specs.Primes.{oddPrime}
 use Rattle.field.specs.Residues.{Residues}
 use Rattle.field.proofs.Modular.{cong-residue}
-use Rattle.store.specs.Elimination.{Solves, ZeroRow, Pivot, Reduced, cells}
+use Rattle.store.specs.Elimination.{Solves, ZeroRow, Pivot, Reduced, storeSize, cells}
 use Rattle.store.proofs.Bytes.{flat-cells, flat-ext}
 use Rattle.lists.proofs.Sums.{sum-only}
 use Rattle.store.proofs.ReducedForm.{off-pivot}
@@ -80,7 +80,7 @@ reduced-unique p C prime S S′ red red′ h q j l k =
     off v r i d = ⊎-map (λ z. z) (λ z. zero-stays r i z j k) (off-pivot p C S red q r l i (λ e. d (sym e)))
 
 -- the same of two stores' bytes: "the one reduced form" is meant literally
-pub stores-equal : (p C : ℕ) → oddPrime p ≡ true → (store store′ : List ℕ) → length store ≡ C * (C + 1) → length store′ ≡ C * (C + 1)
+pub stores-equal : (p C : ℕ) → oddPrime p ≡ true → (store store′ : List ℕ) → length store ≡ storeSize C → length store′ ≡ storeSize C
     → Reduced p C (cells C store) → Reduced p C (cells C store′)
     → ((β : List ℕ) → length β ≡ C → Residues p β → (Solves p C (cells C store) (at β) ↔ Solves p C (cells C store′) (at β)))
     → store ≡ store′

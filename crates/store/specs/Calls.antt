@@ -24,7 +24,7 @@ use Rattle.plan.specs.Numbers.{columns, plan}
 use Rattle.plan.specs.Causes.{first, result, Answer, gives, refuses, answer}
 use Rattle.plan.specs.Parts.{callCauses}
 use Rattle.plan.specs.Rows.{row, entryCause}
-use Rattle.store.specs.Elimination.{Outcome, new, implied, contradiction, isReduced, outcome, after, readOff, cells, flat}
+use Rattle.store.specs.Elimination.{Outcome, new, implied, contradiction, isReduced, outcome, after, readOff, storeSize, cells, flat}
 use Rattle.store.specs.Filings.{isContradiction}
 use Rattle.store.specs.declared.elimination.Filed.{Filed}
 use Rattle.store.specs.declared.elimination.Filed.the-variants.{New, Implied, Refused}
@@ -33,10 +33,10 @@ abbrev pub equation : Plan → List ℕ → List ℕ → List ℕ → ℕ → �
 equation P w T d i v = at (row P w T d i ++ (v ∷ []))
 
 abbrev pub emptyStore : Plan → List ℕ
-emptyStore P = replicate (columns P * (columns P + 1)) 0
+emptyStore P = replicate (storeSize (columns P)) 0
 
 abbrev pub storeFits : Plan → List ℕ → Bool
-storeFits P store = eqb (length store) (columns P * (columns P + 1))
+storeFits P store = eqb (length store) (storeSize (columns P))
 
 abbrev pub storeCause : Plan → List ℕ → ℕ × Bool
 storeCause P store = (6, not (isReduced (P .p) (columns P) (cells (columns P) store)))

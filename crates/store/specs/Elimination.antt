@@ -11,11 +11,13 @@
 --     residual p C S e       e less, for each row q, e's coefficient q times that row
 --     lead f n               the first of n places at which f is not 0, else n
 --     normal p f c           f times the inverse of its place c
---     put p S N c            the equation N put in as row c, and column c cleared from every other row
+--     inserted p S N c       the equation N inserted as row c, and column c cleared from every other row
 --     Outcome                new with the pivot column, implied, or a contradiction
 --     outcome p C S e        what filing e answers
 --     after p C S e          the store after filing e
 --     readOff C S q          coefficient q read off: the right-hand side of row q
+--     storeSize C            the length of a store: C rows of C + 1 bytes
+--     rowStart C q           where row q starts: the rows stand one after the other
 --     cells C store          a store's bytes read by row and column
 --     flat C S               the bytes of such a reading
 use mathlib.Core.Path.{_≡_}
@@ -64,8 +66,8 @@ lead f (suc n) = cond (eqb (f 0) 0) (suc (lead (λ k. f (suc k)) n)) 0
 unfoldable pub normal : ℕ → (ℕ → ℕ) → ℕ → ℕ → ℕ
 normal p f c j = (inverse p (f c) * f j) % p
 
-unfoldable pub put : ℕ → (ℕ → ℕ → ℕ) → (ℕ → ℕ) → ℕ → ℕ → ℕ → ℕ
-put p S N c r j = cond (eqb r c) (N j) ((S r j + (p - S r c) * N j) % p)
+unfoldable pub inserted : ℕ → (ℕ → ℕ → ℕ) → (ℕ → ℕ) → ℕ → ℕ → ℕ → ℕ
+inserted p S N c r j = cond (eqb r c) (N j) ((S r j + (p - S r c) * N j) % p)
 
 pub data Outcome : Type 0 where
   new : ℕ → Outcome
@@ -79,14 +81,20 @@ outcome p C S e =
 unfoldable pub after : ℕ → ℕ → (ℕ → ℕ → ℕ) → (ℕ → ℕ) → ℕ → ℕ → ℕ
 after p C S e =
     cond (ltb (lead (residual p C S e) C) C)
-    (put p S (normal p (residual p C S e) (lead (residual p C S e) C)) (lead (residual p C S e) C)) S
+    (inserted p S (normal p (residual p C S e) (lead (residual p C S e) C)) (lead (residual p C S e) C)) S
 
 abbrev pub readOff : ℕ → (ℕ → ℕ → ℕ) → ℕ → ℕ
 readOff C S q = S q C
 
 -- "C rows of C+1 bytes", row after row
+unfoldable pub storeSize : ℕ → ℕ
+storeSize C = C * (C + 1)
+
+unfoldable pub rowStart : ℕ → ℕ → ℕ
+rowStart C q = q * (C + 1)
+
 abbrev pub cells : ℕ → List ℕ → ℕ → ℕ → ℕ
-cells C store q j = at store (q * (C + 1) + j)
+cells C store q j = at store (rowStart C q + j)
 
 unfoldable pub flat : ℕ → (ℕ → ℕ → ℕ) → List ℕ
-flat C S = tab (C * (C + 1)) (λ k. S (k / (C + 1)) (k % (C + 1)))
+flat C S = tab (storeSize C) (λ k. S (k / (C + 1)) (k % (C + 1)))

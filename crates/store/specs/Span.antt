@@ -16,7 +16,7 @@ use lib.ListN.{length}
 use Rattle.lists.specs.Places.{sum}
 use Rattle.plan.specs.declared.numbers.Plan.{Plan}
 use Rattle.plan.specs.Numbers.{columns}
-use Rattle.store.specs.Elimination.{Reduced, cells}
+use Rattle.store.specs.Elimination.{Reduced, storeSize, cells}
 use Rattle.store.specs.Calls.{equation, filed}
 
 pub record Combined (p C : ℕ) (A : ℕ → ℕ → ℕ) (n : ℕ) (e : ℕ → ℕ) : Type 0 where
@@ -30,7 +30,7 @@ abbrev pub withRow : ℕ → (ℕ → ℕ → ℕ) → (ℕ → ℕ) → ℕ →
 withRow C S e q = cond (ltb q C) (S q) e
 
 pub record Spans (P : Plan) (w T d S : List ℕ) (i v : ℕ) (S′ : List ℕ) : Type 0 where
-  pub places : length S′ ≡ columns P * (columns P + 1)
+  pub places : length S′ ≡ storeSize (columns P)
   pub reduced : Reduced (P .p) (columns P) (cells (columns P) S′)
   pub span : SameSpan (P .p) (columns P) (cells (columns P) S′) (columns P)
       (withRow (columns P) (cells (columns P) S) (equation P w T d i v)) (columns P + 1)

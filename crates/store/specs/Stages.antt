@@ -17,12 +17,12 @@ use lib.ListN.{length}
 use Rattle.lists.specs.Places.{sum, tab}
 use Rattle.field.specs.Residues.{Modulus, Residues}
 use Rattle.field.specs.Rows.{plusTimes}
-use Rattle.store.specs.Elimination.{Reduced, cells}
+use Rattle.store.specs.Elimination.{Reduced, storeSize, cells}
 
 pub record Ready (p C : ℕ) (store : List ℕ) : Type 0 where
   pub modulus : Modulus p
   pub limit : C ≤ 1024
-  pub places : length store ≡ C * (C + 1)
+  pub places : length store ≡ storeSize C
   pub reduced : Reduced p C (cells C store)
 
 pub record Line (p C : ℕ) (xs : List ℕ) : Type 0 where

@@ -8,7 +8,7 @@ ghost use Rattle.field.specs.Rows.{plusMultiple, Headroom};
 ghost use Rattle.plan.specs.Numbers.{Within, columns};
 ghost use Rattle.plan.specs.Parts.{Lent};
 ghost use Rattle.store.specs.Elimination as specs;
-ghost use Rattle.store.specs.Elimination.{cells, flat};
+ghost use Rattle.store.specs.Elimination.{storeSize, rowStart, cells, flat};
 ghost use Rattle.store.specs.Stages as stages;
 ghost use Rattle.store.specs.Stages.{Ready, Line, deferred, cleared};
 ghost use Rattle.store.specs.Calls as calls;
@@ -154,41 +154,44 @@ fn clear_row(row: &mut [u8], pivot: &[u8], p: u8)
     field::add_multiple(row, pivot, p - f, p);
 }
 
-// Column k cleared by the pivot from the rows above k. The rows below have 0 there.
-fn clear_above(store: &mut [u8], pivot: &[u8], k: usize, c: usize, p: u8)
+// Column k cleared by the pivot from the rows above k. The rows below have 0 there. Answers where row k starts.
+fn clear_above(store: &mut [u8], pivot: &[u8], k: usize, c: usize, p: u8) -> usize
     requires { ⌜ Ready p c (now store) ⌝ }
     requires { ⌜ Line p c (now pivot) ⌝ }
     requires { ⌜ k < c ⌝ }
     requires { ⌜ ((j : ℕ) → j < k → at (now pivot) j ≡ 0) ⌝ }
-    ensures { λ _. ⌜ now (store .exit) ≡ flat c (cleared p (cells c (now (store .entry))) (at (now (pivot .entry))) k) ⌝ }
+    ensures { λ r. ⌜ r ≡ rowStart c k ⌝ }
+    ensures { λ r. ⌜ now (store .exit) ≡ flat c (cleared p (cells c (now (store .entry))) (at (now (pivot .entry))) k) ⌝ }
 {
     let width = c + 1;
+    let mut begin: usize = 0;
     let mut r: usize = 0;
     while r < k {
-        let begin = r * width;
         let a = begin + k;
         let end = begin + width;
         clear_row(&mut store[a..end], &pivot[k..width], p);
+        begin = end;
         r += 1;
     }
+    begin
 }
 
-// The residual res put in as row k, the column of its first coefficient, whose row is free: made normal, and column k cleared.
-fn put_row(store: &mut [u8], res: &[u8], k: usize, c: usize, p: u8)
+// The residual res inserted as row k, the column of its first coefficient, whose row is free: made normal, and column k cleared.
+fn insert_row(store: &mut [u8], res: &[u8], k: usize, c: usize, p: u8)
     requires { ⌜ Ready p c (now store) ⌝ }
     requires { ⌜ Line p c (now res) ⌝ }
     requires { ⌜ k < c ⌝ }
     requires { ⌜ ((j : ℕ) → j < k → at (now res) j ≡ 0) ⌝ }
     requires { ⌜ specs.ZeroRow c (cells c (now store)) k ⌝ }
-    ensures { λ _. ⌜ now (store .exit) ≡ flat c (specs.put p (cells c (now (store .entry))) (specs.normal p (at (now (res .entry))) k) k) ⌝ }
+    ensures { λ _. ⌜ now (store .exit) ≡ flat c (specs.inserted p (cells c (now (store .entry))) (specs.normal p (at (now (res .entry))) k) k) ⌝ }
 {
     let mut pivot = [0u8; Plan::COLUMNS + 1];
     let width = c + 1;
     let g = field::inverse(res[k], p);
     field::set_multiple(&mut pivot[..width], res, g, p);
-    clear_above(store, &pivot[..width], k, c, p);
-    let a = k * width + k;
-    let end = k * width + width;
+    let begin = clear_above(store, &pivot[..width], k, c, p);
+    let a = begin + k;
+    let end = begin + width;
     field::set_multiple(&mut store[a..end], &pivot[k..width], 1, p);
 }
 
@@ -204,7 +207,7 @@ pub fn file_equation(store: &mut [u8], e: &[u8], c: usize, p: u8) -> Filed
     residual(&mut res[..width], store, e, c, p);
     let k = lead(&res[..c]);
     if k < c {
-        put_row(store, &res[..width], k, c, p);
+        insert_row(store, &res[..width], k, c, p);
         return Filed::New(k);
     }
     if res[c] != 0 {
@@ -241,7 +244,7 @@ pub fn file_entry(
 // The coefficients read off: the right-hand side of each row.
 pub fn read_off(store: &[u8], c: usize, beta: &mut [u8])
     requires { ⌜ c ≤ 1024 ⌝ }
-    requires { ⌜ length (now store) ≡ c * (c + 1) ⌝ }
+    requires { ⌜ length (now store) ≡ storeSize c ⌝ }
     requires { ⌜ length (now beta) ≡ c ⌝ }
     ensures { λ _. ⌜ now (beta .exit) ≡ calls.coefficients c (now (store .entry)) ⌝ }
 {

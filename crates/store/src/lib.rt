@@ -3,12 +3,12 @@
 // A host or a program calls `test`, `file` and `coefficients`, which take any numbers and bytes. `text` calls `read_off` too, on a store
 // that it knows to be in reduced form. Stands on `plan` and `field`. Renders 01, "The store" and causes 6 to 9; the theory of elimination
 // is in proofs/.
+mod calls;
 mod elimination;
-mod entry;
 mod reduced;
 
+pub use calls::coefficients;
+pub use calls::file;
+pub use calls::test;
 pub use elimination::Filed;
 pub use elimination::read_off;
-pub use entry::coefficients;
-pub use entry::file;
-pub use entry::test;

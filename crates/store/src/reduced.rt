@@ -4,7 +4,7 @@ ghost use Prim.Native.Nat.{_+_, _-_, _*_, _≤_, _<_};
 ghost use lib.ListN.{length, set};
 ghost use Rattle.lists.specs.Places.{tab, at};
 ghost use Rattle.field.specs.Residues.{Modulus};
-ghost use Rattle.store.specs.Elimination.{isReduced, cells};
+ghost use Rattle.store.specs.Elimination.{isReduced, storeSize, cells};
 ghost use Rattle.store.specs.Reading.{rowFits, bound};
 use plan::Plan;
 
@@ -31,13 +31,13 @@ fn pass_row(bounds: &mut [u8], row: &[u8], q: usize, p: u8) -> bool
 fn pass_rows(bounds: &mut [u8], store: &[u8], c: usize, p: u8) -> bool
     requires { ⌜ c ≤ 1024 ⌝ }
     requires { ⌜ Modulus p ⌝ }
-    requires { ⌜ length (now store) ≡ c * (c + 1) ⌝ }
+    requires { ⌜ length (now store) ≡ storeSize c ⌝ }
     requires { ⌜ now bounds ≡ tab (c + 1) (λ _. 0) ⌝ }
     ensures { λ r. ⌜ r ≡ isReduced p c (cells c (now (store .entry))) ⌝ }
 {
     bounds[c] = p - 1;
     let width = c + 1;
-    let mut begin = c * width;
+    let mut begin = store.len();
     let mut q = c;
     while 0 < q {
         let end = begin;
@@ -54,7 +54,7 @@ fn pass_rows(bounds: &mut [u8], store: &[u8], c: usize, p: u8) -> bool
 pub fn is_reduced(store: &[u8], c: usize, p: u8) -> bool
     requires { ⌜ c ≤ 1024 ⌝ }
     requires { ⌜ Modulus p ⌝ }
-    requires { ⌜ length (now store) ≡ c * (c + 1) ⌝ }
+    requires { ⌜ length (now store) ≡ storeSize c ⌝ }
     ensures { λ r. ⌜ r ≡ isReduced p c (cells c (now (store .entry))) ⌝ }
 {
     let mut bounds = [0u8; Plan::COLUMNS + 1];

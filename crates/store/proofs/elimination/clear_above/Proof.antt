@@ -1,20 +1,28 @@
 -- `store::elimination::clear_above` meets its contract: row after row above row k is cleared (`Clearing`). Assumes nothing.
-use mathlib.Core.Path.{refl, sym, _∙_}
-use Prim.Native.Nat.{ℕ, _+_, _-_, _*_, _<_}
+use mathlib.Core.Path.{sym, _∙_}
+use Prim.Native.Nat.{ℕ, _+_, _-_, _<_}
+use native.Mathlib.Nat.{le-of-lt}
 use native.Mathlib.Omega.{arith}
 use Rattle.lists.specs.Places.{at}
+use Rattle.lists.proofs.Parts.{part-each}
 use Rattle.store.specs.Elimination.{cells}
-use Rattle.store.proofs.Pasting.{tail-end, tail-length}
-use Rattle.store.proofs.Deferring.{part-each}
-use Rattle.store.proofs.Clearing.{Cleared, cleared-none, cleared-next, cleared-all, cleared-residues, cut-length}
+use Rattle.store.proofs.Pasting.{RowAt, row-fits, tail-length}
+use Rattle.store.proofs.Clearing.{Cleared, cleared-none, cleared-next, cleared-all, cleared-start, clears-at, cleared-residues, cut-length}
 use Rattle.store.proofs.elimination.clear_above.Statement.{statement}
 use Rattle.store.proofs.elimination.clear_above.Tie as tie
 
 abbrev Inv-loop : tie.InvT-loop
-Inv-loop store₀ pivot k c p width r₀ store r = Cleared p c (cells c store₀) (at pivot) k r store
+Inv-loop store₀ pivot k c p width begin₀ r₀ store begin r = Cleared p c (cells c store₀) (at pivot) k r begin store
 
 abbrev μ-loop : tie.MeasureT-loop
-μ-loop store₀ pivot k c p width r₀ store r = k - r
+μ-loop store₀ pivot k c p width begin₀ r₀ store begin r = k - r
+
+abbrev start : tie.In-loop Inv-loop μ-loop → tie.Start Inv-loop μ-loop
+start c = c .before .before .before .before
+
+-- row r, where the turn begins
+row : (c : tie.In-loop Inv-loop μ-loop) → RowAt (start c .args .c) (c .before .loop .store) (c .before .loop .r) (c .before .loop .begin)
+row c = clears-at (start c .pre .0 .reduced) (start c .pre .1 .0) (start c .pre .1 .1 .0) (c .before .loop .inv) (c .loop-test .taken)
 
 add-width : tie.Need-add-width Inv-loop μ-loop
 add-width c = omega arith
@@ -22,20 +30,11 @@ add-width c = omega arith
 loop-holds : tie.Need-loop-holds Inv-loop μ-loop
 loop-holds c = cleared-none _ _ _ _ _ (c .before .before .pre .0 .places)
 
-mul-begin : tie.Need-mul-begin Inv-loop μ-loop
-mul-begin c =
-    let args = c .before .before .before .before .args in
-    omega (arith, tail-end (args .c) (c .before .loop .store) (c .before .loop .r) (args .k) (c .before .loop .r * (args .c + 1)) (c .before .loop .inv .places) (omega arith) (omega arith) refl)
-
 add-a : tie.Need-add-a Inv-loop μ-loop
-add-a c =
-    let args = c .before .before .before .before .args in
-    omega (arith, tail-end (args .c) (c .before .loop .store) (c .before .loop .r) (args .k) (c .before .loop .r * (args .c + 1)) (c .before .loop .inv .places) (omega arith) (omega arith) refl)
+add-a c = omega (arith, row-fits (row c))
 
 add-end : tie.Need-add-end Inv-loop μ-loop
-add-end c =
-    let args = c .before .before .before .before .args in
-    omega (arith, tail-end (args .c) (c .before .loop .store) (c .before .loop .r) (args .k) (c .before .loop .r * (args .c + 1)) (c .before .loop .inv .places) (omega arith) (omega arith) refl)
+add-end c = omega (arith, row-fits (row c))
 
 sub-clear-row : tie.Need-sub-clear-row Inv-loop μ-loop
 sub-clear-row c = omega arith
@@ -44,9 +43,7 @@ part-clear-row-start : tie.Need-part-clear-row-start Inv-loop μ-loop
 part-clear-row-start c = omega arith
 
 part-clear-row-end : tie.Need-part-clear-row-end Inv-loop μ-loop
-part-clear-row-end c =
-    let args = c .before .before .before .before .args in
-    tail-end (args .c) (c .before .loop .store) (c .before .loop .r) (args .k) (c .before .loop .r * (args .c + 1)) (c .before .loop .inv .places) (omega arith) (omega arith) refl
+part-clear-row-end c = row-fits (row c)
 
 sub-clear-row-2 : tie.Need-sub-clear-row-2 Inv-loop μ-loop
 sub-clear-row-2 c = omega arith
@@ -55,22 +52,19 @@ part-clear-row-start-2 : tie.Need-part-clear-row-start-2 Inv-loop μ-loop
 part-clear-row-start-2 c = omega arith
 
 part-clear-row-end-2 : tie.Need-part-clear-row-end-2 Inv-loop μ-loop
-part-clear-row-end-2 c =
-    let pre = c .before .before .before .before .before .pre in
-    omega (arith, pre .1 .0 .places)
+part-clear-row-end-2 c = omega (arith, start (c .before) .pre .1 .0 .places)
 
 clear-row-requires : tie.Need-clear-row-requires Inv-loop μ-loop
 clear-row-requires c κs =
-    let loop = c .before .before .before .loop in
-    let s = c .before .before .before .before .before .before in
+    let turn = c .before .before in
+    let s = start turn in
     let pos : 0 < s .args .p = omega (arith, s .pre .0 .modulus .0) in
-    let tail = tail-length (s .args .c) (loop .store) (loop .r) (s .args .k) (loop .r * (s .args .c + 1)) (loop .inv .places) (omega arith) (omega arith) refl in
-    let cut = cut-length (s .args .p) (s .args .c) (cells (s .args .c) (s .args .store .now)) (s .args .pivot .now) (s .args .k) (s .pre .0 .reduced) (s .pre .1 .0) (s .pre .1 .1 .0) in (
+    let tail = tail-length (row turn) (le-of-lt (s .pre .1 .1 .0)) in (
       s .pre .0 .modulus,
       (
-        (cut ∙ sym tail, omega (arith, tail)),
+        (cut-length (s .pre .0 .reduced) (s .pre .1 .0) (s .pre .1 .1 .0) ∙ sym tail, omega (arith, tail)),
         (
-          cleared-residues _ _ _ _ _ (s .pre .0 .reduced) (s .pre .1 .0) (s .pre .1 .1 .0) (loop .inv) (c .before .before .loop-test .taken) pos,
+          cleared-residues (s .pre .0 .reduced) (s .pre .1 .0) (s .pre .1 .1 .0) (turn .before .loop .inv) (turn .loop-test .taken) pos,
           part-each (λ (x : ℕ). x < s .args .p) (s .args .pivot .now) (s .args .k) (s .args .c + 1 - s .args .k) pos (s .pre .1 .0 .residues),
         ),
       ),
@@ -84,9 +78,9 @@ loop-less c = omega arith
 
 loop-again : tie.Need-loop-again Inv-loop μ-loop
 loop-again c =
-    let pre = c .before .before .before .before .before .before .before .before .before .pre in
-    let loop = c .before .before .before .before .before .before .loop in
-    cleared-next _ _ _ _ _ (pre .0 .reduced) (pre .1 .0) (pre .1 .1 .0) (loop .inv) (c .before .before .before .before .before .loop-test .taken) (pre .1 .1 .1) _ (c .before .before .clear-row .ensures)
+    let turn = c .before .before .before .before .before in
+    let pre = start turn .pre in
+    cleared-next (pre .0 .reduced) (pre .1 .0) (pre .1 .1 .0) (turn .before .loop .inv) (turn .loop-test .taken) (pre .1 .1 .1) _ (c .before .before .clear-row .ensures)
 
 same-length : tie.Need-same-length Inv-loop μ-loop
 same-length c =
@@ -94,7 +88,7 @@ same-length c =
     c .before .loop .inv .places ∙ sym (pre .0 .places)
 
 returns : tie.Need-returns Inv-loop μ-loop
-returns c = cleared-all (c .before .loop .inv) (c .loop-test .left)
+returns c = (cleared-start (c .before .loop .inv) (c .loop-test .left), cleared-all (c .before .loop .inv) (c .loop-test .left))
 
 pub clear-above-spec : {M : Type 1} → statement M
 clear-above-spec =
@@ -104,7 +98,6 @@ clear-above-spec =
     μ-loop
     add-width
     loop-holds
-    mul-begin
     add-a
     add-end
     sub-clear-row

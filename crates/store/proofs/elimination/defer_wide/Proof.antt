@@ -6,9 +6,9 @@ use native.Mathlib.Omega.{arith}
 use lib.ListN.{length}
 use Rattle.lists.specs.Places.{at}
 use Rattle.lists.proofs.Tabs.{tab-length}
-use Rattle.lists.proofs.Parts.{part-length}
-use Rattle.store.proofs.Pasting.{tail-end, tail-length}
-use Rattle.store.proofs.Deferring.{Subtracted, zeros-at, subtracted-none, subtracted-room, subtracted-next, subtracted-all, added, added-length, part-each}
+use Rattle.lists.proofs.Parts.{part-length, part-each, all-zero}
+use Rattle.store.proofs.Pasting.{RowAt, row-fits, tail-length}
+use Rattle.store.proofs.Deferring.{Subtracted, subtracted-none, subtracted-room, subtracted-next, subtracted-all, row-at, added, added-length}
 use Rattle.store.proofs.elimination.defer_wide.Statement.{statement}
 use Rattle.store.proofs.elimination.defer_wide.Tie as tie
 
@@ -18,50 +18,43 @@ Inv-loop acc₀ store e c p width begin₀ q₀ acc begin q = Subtracted p c sto
 abbrev μ-loop : tie.MeasureT-loop
 μ-loop acc₀ store e c p width begin₀ q₀ acc begin q = c - q
 
+abbrev start : tie.In-loop Inv-loop μ-loop → tie.Start Inv-loop μ-loop
+start c = c .before .before .before .before .before .before .before .before .before
+
+zeros : (c : tie.Start Inv-loop μ-loop) → length (c .args .acc .now) ≡ c .args .c + 1
+zeros c = ap length (c .pre .1 .1) ∙ tab-length (c .args .c + 1) (λ _. 0)
+
+-- row q, where the turn begins
+row : (c : tie.In-loop Inv-loop μ-loop) → RowAt (start c .args .c) (start c .args .store .now) (c .before .loop .q) (c .before .loop .begin)
+row c = row-at (start c .pre .0) (start c .pre .1 .0) (c .before .loop .inv .0) (c .loop-test .taken)
+
 accumulate-requires : tie.Need-accumulate-requires Inv-loop μ-loop
 accumulate-requires c κs =
-    let pre = c .before .before .before .before .pre in
-    let args = c .before .before .before .before .args in
-    let z = pre .1 .1 in
-    (pre .1 .0 .places ∙ sym (ap length z ∙ tab-length (args .c + 1) (λ _. 0)), λ i. omega (arith, zeros-at (args .c + 1) _ z i))
+    let s = c .before .before .before .before in
+    (s .pre .1 .0 .places ∙ sym (zeros s), λ i. omega (arith, all-zero (s .args .c + 1) _ (s .pre .1 .1) i))
 
 add-width : tie.Need-add-width Inv-loop μ-loop
 add-width c = omega arith
 
 loop-holds : tie.Need-loop-holds Inv-loop μ-loop
 loop-holds c =
-    let pre = c .before .before .before .before .before .before .before .pre in
-    subtracted-none _ _ _ _ _ _ (pre .1 .1) (c .before .before .accumulate .ensures)
+    let s = c .before .before .before .before .before .before .before in
+    subtracted-none _ _ (s .pre .1 .1) (c .before .before .accumulate .ensures)
 
 add-a : tie.Need-add-a Inv-loop μ-loop
-add-a c =
-    let args = c .before .before .before .before .before .before .before .before .before .args in
-    let pre = c .before .before .before .before .before .before .before .before .before .pre in
-    omega (arith, tail-end (args .c) (args .store .now) (c .before .loop .q) (c .before .loop .q) (c .before .loop .begin) (pre .0 .places) (c .loop-test .taken) (le-of-lt (c .loop-test .taken)) (c .before .loop .inv .0 .begins))
+add-a c = omega (arith, row-fits (row c))
 
 add-end : tie.Need-add-end Inv-loop μ-loop
-add-end c =
-    let args = c .before .before .before .before .before .before .before .before .before .args in
-    let pre = c .before .before .before .before .before .before .before .before .before .pre in
-    omega (arith, tail-end (args .c) (args .store .now) (c .before .loop .q) (c .before .loop .q) (c .before .loop .begin) (pre .0 .places) (c .loop-test .taken) (le-of-lt (c .loop-test .taken)) (c .before .loop .inv .0 .begins))
+add-end c = omega (arith, row-fits (row c))
 
 shared-slice-read-factor : tie.Need-shared-slice-read-factor Inv-loop μ-loop
-shared-slice-read-factor c =
-    let pre = c .before .before .before .before .before .before .before .before .before .before .pre in
-    omega (arith, pre .1 .0 .places)
+shared-slice-read-factor c = omega (arith, start (c .before) .pre .1 .0 .places)
 
 shared-slice-read-factor-2 : tie.Need-shared-slice-read-factor-2 Inv-loop μ-loop
-shared-slice-read-factor-2 c =
-    let args = c .before .before .before .before .before .before .before .before .before .before .before .args in
-    let loop = c .before .before .before .loop in
-    let pre = c .before .before .before .before .before .before .before .before .before .before .before .pre in
-    omega (arith, tail-end (args .c) (args .store .now) (loop .q) (loop .q) (loop .begin) (pre .0 .places) (c .before .before .loop-test .taken) (le-of-lt (c .before .before .loop-test .taken)) (loop .inv .0 .begins))
+shared-slice-read-factor-2 c = omega (arith, row-fits (row (c .before .before)))
 
 factor-requires : tie.Need-factor-requires Inv-loop μ-loop
-factor-requires c κs =
-    let pre = c .before .before .before .before .before .before .before .before .before .before .before .pre in
-    let loop = c .before .before .before .loop in
-    pre .1 .0 .residues (loop .q)
+factor-requires c κs = start (c .before .before) .pre .1 .0 .residues (c .before .before .before .loop .q)
 
 mul-accumulate : tie.Need-mul-accumulate Inv-loop μ-loop
 mul-accumulate c = omega arith
@@ -84,22 +77,17 @@ part-accumulate-start-2 : tie.Need-part-accumulate-start-2 Inv-loop μ-loop
 part-accumulate-start-2 c = omega arith
 
 part-accumulate-end-2 : tie.Need-part-accumulate-end-2 Inv-loop μ-loop
-part-accumulate-end-2 c =
-    let args = c .before .before .before .before .before .before .before .before .before .before .before .before .before .args in
-    let loop = c .before .before .before .before .before .loop in
-    let pre = c .before .before .before .before .before .before .before .before .before .before .before .before .before .pre in
-    tail-end (args .c) (args .store .now) (loop .q) (loop .q) (loop .begin) (pre .0 .places) (c .before .before .before .before .loop-test .taken) (le-of-lt (c .before .before .before .before .loop-test .taken)) (loop .inv .0 .begins)
+part-accumulate-end-2 c = row-fits (row (c .before .before .before .before))
 
 accumulate-requires-2 : tie.Need-accumulate-requires-2 Inv-loop μ-loop
 accumulate-requires-2 c κs =
-    let args = c .before .before .before .before .before .before .before .before .before .before .before .before .before .before .args in
-    let loop = c .before .before .before .before .before .before .loop in
-    let pre = c .before .before .before .before .before .before .before .before .before .before .before .before .before .before .pre in
-    let l = c .before .before .before .before .before .loop-test .taken in (
-      tail-length (args .c) (args .store .now) (loop .q) (loop .q) (loop .begin) (pre .0 .places) l (le-of-lt l) (loop .inv .0 .begins)
-          ∙ sym (part-length (loop .acc) (loop .q) (args .c + 1 - loop .q) (omega (arith, loop .inv .1))),
-      part-each (λ (x : ℕ). x + 65025 < 4294967296) (loop .acc) (loop .q) (args .c + 1 - loop .q) (omega arith)
-          (subtracted-room _ _ _ _ (pre .0) (pre .1 .0) (loop .inv .0) 65025 (omega arith) (loop .acc) (loop .inv .1) (λ j k. le-refl (at (loop .acc) j))),
+    let turn = c .before .before .before .before .before in
+    let s = start turn in
+    let loop = turn .before .loop in (
+      tail-length (row turn) (le-of-lt (turn .loop-test .taken))
+          ∙ sym (part-length (loop .acc) (loop .q) (s .args .c + 1 - loop .q) (omega (arith, loop .inv .1))),
+      part-each (λ (x : ℕ). x + 65025 < 4294967296) (loop .acc) (loop .q) (s .args .c + 1 - loop .q) (omega arith)
+          (subtracted-room (s .pre .0) (s .pre .1 .0) (loop .inv .0) 65025 (omega arith) (loop .acc) (loop .inv .1) (λ j k. le-refl (at (loop .acc) j))),
     )
 
 add-q : tie.Need-add-q Inv-loop μ-loop
@@ -110,23 +98,23 @@ loop-less c = omega arith
 
 loop-again : tie.Need-loop-again Inv-loop μ-loop
 loop-again c =
-    let loop = c .before .before .before .before .before .before .before .before .before .loop in
-    let factor = c .before .before .before .before .before .factor in
-    let s = c .before .before .before .before .before .before .before .before .before .before .before .before .before .before .before .before .before in
-    let w = loop .inv in
-    let l = c .before .before .before .before .before .before .before .before .loop-test .taken in (
-      subtracted-next _ _ _ _ (s .pre .0) (s .pre .1 .0) (w .0) l _ (added _ _ _ _ (s .pre .0) (s .pre .1 .0) (w .0) l _ (factor .ensures) (loop .acc) _ (w .1) (c .before .before .accumulate2 .ensures)),
-      added-length _ _ _ _ (s .pre .0) (s .pre .1 .0) (w .0) l _ (factor .ensures) (loop .acc) _ (w .1) (c .before .before .accumulate2 .ensures),
+    let turn = c .before .before .before .before .before .before .before .before in
+    let pre = start turn .pre in
+    let w = turn .before .loop .inv in
+    let l = turn .loop-test .taken in
+    let factor = c .before .before .before .before .before .factor .ensures in
+    let sum = c .before .before .accumulate2 .ensures in (
+      subtracted-next (pre .0) (pre .1 .0) (w .0) l _ (added (pre .0) (pre .1 .0) (w .0) l _ factor _ _ (w .1) sum),
+      added-length (pre .0) (pre .1 .0) (w .0) l _ factor _ _ (w .1) sum,
     )
 
 same-length : tie.Need-same-length Inv-loop μ-loop
 same-length c =
-    let pre = c .before .before .before .before .before .before .before .before .before .pre in
-    let args = c .before .before .before .before .before .before .before .before .before .args in
-    c .before .loop .inv .1 ∙ sym (ap length (pre .1 .1) ∙ tab-length (args .c + 1) (λ _. 0))
+    let s = c .before .before .before .before .before .before .before .before .before in
+    c .before .loop .inv .1 ∙ sym (zeros s)
 
 returns : tie.Need-returns Inv-loop μ-loop
-returns c = subtracted-all _ _ _ _ (c .before .loop .inv .0) (c .loop-test .left) (c .before .loop .inv .1) (λ j l. refl)
+returns c = subtracted-all (c .before .loop .inv .0) (c .loop-test .left) (c .before .loop .inv .1) (λ j l. refl)
 
 pub defer-wide-spec : {M : Type 1} → statement M
 defer-wide-spec =

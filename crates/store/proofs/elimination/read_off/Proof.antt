@@ -1,18 +1,18 @@
 -- `store::elimination::read_off` meets its contract: a loop that writes beta in place (`Overwrite` of lists), with a at the right-hand
 -- side of row q. Assumes nothing.
 use mathlib.Core.Path.{_≡_, sym, ap, _∙_}
-use Prim.Native.Nat.{_+_, _-_, _*_}
-use native.Mathlib.Nat.{mul-le-mul-right}
+use Prim.Native.Nat.{_+_, _-_}
 use native.Mathlib.Omega.{arith}
 use Rattle.lists.specs.Places.{at}
 use Rattle.lists.proofs.Overwrite.{Written, written-none, written-next, written-all}
-use Rattle.store.specs.Elimination.{cells}
+use Rattle.store.specs.Elimination.{rowStart, cells}
 use Rattle.store.specs.Calls.{coefficients}
+use Rattle.store.proofs.RowStarts.{start-zero, start-next, row-end}
 use Rattle.store.proofs.elimination.read_off.Statement.{statement}
 use Rattle.store.proofs.elimination.read_off.Tie as tie
 
 abbrev Inv-loop : tie.InvT-loop
-Inv-loop store c beta₀ width a₀ q₀ beta a q = Written c (λ i. cells c store i c) beta₀ q beta × (a ≡ q * (c + 1) + c)
+Inv-loop store c beta₀ width a₀ q₀ beta a q = Written c (λ i. cells c store i c) beta₀ q beta × (a ≡ rowStart c q + c)
 
 abbrev μ-loop : tie.MeasureT-loop
 μ-loop store c beta₀ width a₀ q₀ beta a q = c - q
@@ -21,12 +21,12 @@ add-width : tie.Need-add-width Inv-loop μ-loop
 add-width c = omega arith
 
 loop-holds : tie.Need-loop-holds Inv-loop μ-loop
-loop-holds c = (written-none _ _ _ (c .pre .1 .1), omega arith)
+loop-holds c = (written-none _ _ _ (c .pre .1 .1), omega (arith, start-zero (c .args .c)))
 
 shared-slice-read-beta : tie.Need-shared-slice-read-beta Inv-loop μ-loop
 shared-slice-read-beta c =
     let args = c .before .before .before .args in
-    omega (arith, mul-le-mul-right (args .c + 1) (c .before .loop-test .taken))
+    omega (arith, row-end (args .c) (c .before .before .loop .q) (c .before .loop-test .taken))
 
 slice-write-beta : tie.Need-slice-write-beta Inv-loop μ-loop
 slice-write-beta c = omega arith
@@ -34,7 +34,7 @@ slice-write-beta c = omega arith
 add-a : tie.Need-add-a Inv-loop μ-loop
 add-a c =
     let args = c .before .before .before .args in
-    omega (arith, mul-le-mul-right (args .c + 1) (c .before .loop-test .taken))
+    omega (arith, row-end (args .c) (c .before .before .loop .q) (c .before .loop-test .taken))
 
 add-q : tie.Need-add-q Inv-loop μ-loop
 add-q c = omega arith
@@ -45,7 +45,7 @@ loop-less c = omega arith
 loop-again : tie.Need-loop-again Inv-loop μ-loop
 loop-again c =
     let args = c .before .before .before .args in
-    (written-next _ (c .before .before .loop .inv .0) (omega arith) (ap (at (args .store .now)) (c .before .before .loop .inv .1)), omega arith)
+    (written-next _ (c .before .before .loop .inv .0) (omega arith) (ap (at (args .store .now)) (c .before .before .loop .inv .1)), omega (arith, start-next (args .c) (c .before .before .loop .q)))
 
 same-length : tie.Need-same-length Inv-loop μ-loop
 same-length c = c .before .loop .inv .0 .same ∙ sym (c .before .before .pre .1 .1)

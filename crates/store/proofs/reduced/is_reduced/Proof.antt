@@ -3,7 +3,7 @@ use mathlib.Core.Path.{refl, sym}
 use Prim.Native.Nat.{_+_}
 use native.Mathlib.Omega.{arith}
 use lib.Seq.{length-take-le}
-use Rattle.store.proofs.Zeros.{zeros-front}
+use Rattle.lists.proofs.Parts.{zeros-front}
 use borrow.Author.Needs.{needs}
 use Rattle.store.proofs.reduced.is_reduced.Statement.{statement}
 use Rattle.store.proofs.reduced.is_reduced.Tie as tie
@@ -18,7 +18,7 @@ slice-aggregate-pass-rows : tie.Need-slice-aggregate-pass-rows
 slice-aggregate-pass-rows c = sym (length-take-le (c .before .before .args .c + 1) _ (omega arith))
 
 pass-rows-requires : tie.Need-pass-rows-requires
-pass-rows-requires c κs = (c .before .before .pre .0, (c .before .before .pre .1 .0, (c .before .before .pre .1 .1, zeros-front _ (c .before .before .args .c + 1) refl (omega arith))))
+pass-rows-requires c κs = (c .before .before .pre .0, (c .before .before .pre .1 .0, (c .before .before .pre .1 .1, zeros-front 1025 (c .before .before .args .c + 1) (omega arith))))
 
 returns : tie.Need-returns
 returns c = search needs

@@ -5,7 +5,7 @@ use native.Mathlib.Omega.{arith}
 use lib.ListN.{length}
 use borrow.Author.Tests.{not-true, not-false}
 use Rattle.lists.proofs.Tabs.{tab-length}
-use Rattle.store.proofs.OneReading.{Passed, passed-none, passed-next, passed-not, passed-all, passed-length, row-begin, row-end, row-length}
+use Rattle.store.proofs.OneReading.{Passed, passed-none, passed-next, passed-not, passed-all, passed-length, row-begin, row-within, row-length}
 use Rattle.store.proofs.reduced.pass_rows.Statement.{statement}
 use Rattle.store.proofs.reduced.pass_rows.Tie as tie
 
@@ -23,9 +23,6 @@ slice-write-bounds c = omega (arith, ap length (c .before .before .pre .1 .1 .1)
 
 add-width : tie.Need-add-width Inv-loop μ-loop
 add-width c = omega arith
-
-mul-begin : tie.Need-mul-begin Inv-loop μ-loop
-mul-begin c = omega (arith, c .before .before .pre .1 .1 .0)
 
 loop-holds : tie.Need-loop-holds Inv-loop μ-loop
 loop-holds c = passed-none _ _ _ (c .before .before .pre .1 .0 .0) (c .before .before .pre .1 .1 .0) _ (c .before .before .pre .1 .1 .1)
@@ -47,7 +44,7 @@ part-pass-row-start c = omega arith
 part-pass-row-end : tie.Need-part-pass-row-end Inv-loop μ-loop
 part-pass-row-end c =
     let pre = c .before .before .before .before .before .pre in
-    row-end _ _ _ (pre .1 .0 .0) (pre .1 .1 .0) (c .before .before .loop .inv) (c .before .loop-test .taken)
+    row-within _ _ _ (pre .1 .0 .0) (pre .1 .1 .0) (c .before .before .loop .inv) (c .before .loop-test .taken)
 
 pass-row-requires : tie.Need-pass-row-requires Inv-loop μ-loop
 pass-row-requires c κs =
@@ -99,7 +96,6 @@ pass-rows-spec =
     sub-bounds
     slice-write-bounds
     add-width
-    mul-begin
     loop-holds
     sub-begin
     sub-q

@@ -1,4 +1,4 @@
--- `store::entry::test` meets its contract: each return is the first cause met (`Refusals` of plan). Assumes nothing.
+-- `store::calls::test` meets its contract: each return is the first cause met (`Refusals` of plan). Assumes nothing.
 use mathlib.Core.Path.{_≡_, sym, ap, _∙_}
 use Prim.Native.Nat.{ℕ, _+_, _*_}
 use native.Mathlib.Nat.{pos-of-ne-zero}
@@ -16,8 +16,8 @@ use Rattle.plan.proofs.Refusals.{lent-of, call-within, call-numbers, call-parts
 use Rattle.store.specs.Elimination.{isReduced, cells}
 use Rattle.store.specs.Calls.{storeFits, testCauses}
 use Rattle.store.proofs.StoreCalls.{columns-small, square-small}
-use Rattle.store.proofs.entry.test.Statement.{statement}
-use Rattle.store.proofs.entry.test.Tie as tie
+use Rattle.store.proofs.calls.test.Statement.{statement}
+use Rattle.store.proofs.calls.test.Tie as tie
 
 new-requires : tie.Need-new-requires
 new-requires c κs = search needs

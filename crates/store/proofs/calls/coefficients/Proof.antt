@@ -1,4 +1,4 @@
--- `store::entry::coefficients` meets its contract: each return is the first cause met (`Refusals` of plan), and only the last one has
+-- `store::calls::coefficients` meets its contract: each return is the first cause met (`Refusals` of plan), and only the last one has
 -- written beta. Assumes nothing.
 use mathlib.Core.Path.{_≡_, refl, sym, ap, _∙_}
 use mathlib.Core.Bool.{Bool, _&&_}
@@ -18,8 +18,8 @@ use Rattle.plan.proofs.Refusals.{result-refused, lent-of, call-plan, call-withi
 use Rattle.store.specs.Elimination.{isReduced, cells}
 use Rattle.store.specs.Calls.{storeFits, coefficientsCauses, coefficients}
 use Rattle.store.proofs.StoreCalls.{columns-small}
-use Rattle.store.proofs.entry.coefficients.Statement.{statement}
-use Rattle.store.proofs.entry.coefficients.Tie as tie
+use Rattle.store.proofs.calls.coefficients.Statement.{statement}
+use Rattle.store.proofs.calls.coefficients.Tie as tie
 
 new-requires : tie.Need-new-requires
 new-requires c κs = search needs

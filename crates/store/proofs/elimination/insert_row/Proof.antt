@@ -1,4 +1,4 @@
--- `store::elimination::put_row` meets its contract: the pivot is the local array's front, the residual made normal; it clears its column
+-- `store::elimination::insert_row` meets its contract: the pivot is the local array's front, the residual made normal; it clears its column
 -- from the rows above, and is written as row k (`Clearing`). Assumes nothing.
 use mathlib.Core.Path.{_≡_, refl, sym, ap, subst⁻¹, _∙_}
 use mathlib.Core.List.{List, _++_}
@@ -15,9 +15,9 @@ use Rattle.store.specs.Stages.{Line}
 use Rattle.store.proofs.Bytes.{flat-length}
 use Rattle.store.proofs.Residuals.{normal-small, normal-zero}
 use Rattle.store.proofs.Pasting.{tail-end, tail-length}
-use Rattle.store.proofs.Clearing.{pivot-length, pivot-line, pivot-at, pivot-before, front-cut, front-residues, row-put}
-use Rattle.store.proofs.elimination.put_row.Statement.{statement}
-use Rattle.store.proofs.elimination.put_row.Tie as tie
+use Rattle.store.proofs.Clearing.{pivot-length, pivot-line, pivot-at, pivot-before, front-cut, front-residues, row-inserted}
+use Rattle.store.proofs.elimination.insert_row.Statement.{statement}
+use Rattle.store.proofs.elimination.insert_row.Tie as tie
 
 add-width : tie.Need-add-width
 add-width c = search needs
@@ -184,12 +184,12 @@ returns c =
     let k = s .args .k in
     let l = s .pre .1 .1 .0 in
     let pos : 0 < s .args .p = omega (arith, s .pre .0 .modulus .0) in
-    row-put _ _ _ (normal (s .args .p) (at (s .args .res .now)) k) k (s .pre .0 .reduced) l (s .pre .1 .1 .1 .1)
+    row-inserted _ _ _ (normal (s .args .p) (at (s .args .res .now)) k) k (s .pre .0 .reduced) l (s .pre .1 .1 .1 .1)
     (λ j. normal-small (s .args .p) (at (s .args .res .now)) k j pos) (λ j b. normal-zero (s .args .p) (at (s .args .res .now)) k j pos (s .pre .1 .1 .1 .0 j b))
     _ _ _ (long r _) (λ j b. ap (λ (xs : List ℕ). at xs j) (front r _) ∙ places r j b) (clear-above .ensures) (c .before .before .set-multiple2 .ensures)
 
-pub put-row-spec : {M : Type 1} → statement M
-put-row-spec =
+pub insert-row-spec : {M : Type 1} → statement M
+insert-row-spec =
     tie.close
     (tie.spec
     add-width

@@ -1,4 +1,4 @@
--- `store::entry::file` meets its contract: each return is the first cause met (`Refusals` of plan), and only the last one may have written
+-- `store::calls::file` meets its contract: each return is the first cause met (`Refusals` of plan), and only the last one may have written
 -- the store (`StoreCalls`). Assumes nothing.
 use mathlib.Core.Path.{_≡_, sym, ap, _∙_}
 use mathlib.Core.Bool.{true}
@@ -18,8 +18,8 @@ use Rattle.plan.proofs.Refusals.{lent-of, call-plan, call-within, call-numbers,
 use Rattle.store.specs.Elimination.{isReduced, cells}
 use Rattle.store.specs.Calls.{storeFits, fileCauses}
 use Rattle.store.proofs.StoreCalls.{columns-small, square-small, ready-of, refused-call, filed-call}
-use Rattle.store.proofs.entry.file.Statement.{statement}
-use Rattle.store.proofs.entry.file.Tie as tie
+use Rattle.store.proofs.calls.file.Statement.{statement}
+use Rattle.store.proofs.calls.file.Tie as tie
 
 new-requires : tie.Need-new-requires
 new-requires c κs = search needs

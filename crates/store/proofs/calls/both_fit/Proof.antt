@@ -1,10 +1,10 @@
--- `store::entry::both_fit` meets its contract: the store's size fits in the machine's numbers. Assumes nothing.
+-- `store::calls::both_fit` meets its contract: the store's size fits in the machine's numbers. Assumes nothing.
 use native.Mathlib.Omega.{arith}
 use borrow.Author.Tests.{eq-eqb, ne-eqb}
 use borrow.Author.Needs.{needs}
 use Rattle.store.proofs.StoreCalls.{square-small}
-use Rattle.store.proofs.entry.both_fit.Statement.{statement}
-use Rattle.store.proofs.entry.both_fit.Tie as tie
+use Rattle.store.proofs.calls.both_fit.Statement.{statement}
+use Rattle.store.proofs.calls.both_fit.Tie as tie
 
 add-if1 : tie.Need-add-if1
 add-if1 c = search needs
