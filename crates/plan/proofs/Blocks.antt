@@ -26,6 +26,7 @@ use Rattle.field.specs.Rows.{dot, multiple}
 use Rattle.field.proofs.Modular.{mul-mod-l}
 use Rattle.field.proofs.Ranges.{residues-tab}
 use Rattle.plan.specs.Numbers.{variables, columns, Within}
+use Rattle.plan.specs.Parts.{Given}
 use Rattle.plan.specs.Rows.{values, weighted, rowPlace, row}
 use Rattle.plan.specs.declared.numbers.Plan.{Plan}
 use Rattle.plan.proofs.Bounds.{prime-low}
@@ -59,15 +60,21 @@ module _ (P : Plan) (d xs : List ℕ) where
         (tab-ext (variables P) (λ j. (1 * at xs j) % P .p) (λ j. rowPlace P d xs (P .t * variables P + j)) 0
         (λ j hj. ap (λ (z : ℕ). z % P .p) (one-mul (at xs j)) ∙ mod-eq-of-lt (residues j) ∙ sym (last-place j hj)))
 
-pub row-length : (P : Plan) (w T d : List ℕ) (i : ℕ) → length (row P w T d i) ≡ columns P
+pub row-length : (G : Given) (i : ℕ) → length (row G i) ≡ columns (G .numbers)
 unfolding row
-row-length P w T d i = tab-length (columns P) (rowPlace P d (values P w T i))
+row-length G i = tab-length (columns (G .numbers)) (rowPlace (G .numbers) (G .products) (values G i))
 
-pub row-residues : (P : Plan) (w T d : List ℕ) (i : ℕ) → Within P → Residues (P .p) T → Residues (P .p) (row P w T d i)
+pub row-residues : (G : Given) (i : ℕ) → Within (G .numbers) → Residues (G .numbers .p) (G .tables) → Residues (G .numbers .p) (row G i)
 unfolding row rowPlace
-row-residues P w T d i within tables =
-    residues-tab (P .p) (columns P) (rowPlace P d (values P w T i)) positive (λ c l. place c)
+row-residues G i within tables =
+    residues-tab (P .p) (columns P) (rowPlace P (G .products) xs) positive (λ c l. place c)
   where
+    P : Plan
+    P = G .numbers
+
+    xs : List ℕ
+    xs = values G i
+
     positive : 0 < P .p
     positive = omega (arith, prime-low within)
 
@@ -75,10 +82,10 @@ row-residues P w T d i within tables =
     either true x y hx hy = hx
     either false x y hx hy = hy
 
-    place : (c : ℕ) → rowPlace P d (values P w T i) c < P .p
+    place : (c : ℕ) → rowPlace P (G .products) xs c < P .p
     place c =
-        either (ltb (c / variables P) (P .t)) (at (values P w T i) (c % variables P) * weighted P d (values P w T i) (c / variables P) % P .p) (at (values P w T i) (c % variables P))
-        (mod-lt _ positive) (values-residues P w T i within tables (c % variables P))
+        either (ltb (c / variables P) (P .t)) (at xs (c % variables P) * weighted P (G .products) xs (c / variables P) % P .p) (at xs (c % variables P))
+        (mod-lt _ positive) (values-residues G i within tables (c % variables P))
 
 columns-split : (P : Plan) → columns P ≡ P .t * variables P + variables P
 columns-split P = omega arith

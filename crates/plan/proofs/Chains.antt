@@ -21,41 +21,44 @@ use Rattle.field.specs.Residues.{Residues}
 use Rattle.field.specs.Rows.{dot}
 use Rattle.field.proofs.Ranges.{residues-tab, residues-snoc}
 use Rattle.plan.specs.Numbers.{variables, Within}
-use Rattle.plan.specs.Parts.{linkStart}
-use Rattle.plan.specs.Rows.{digit, link, chain, values}
+use Rattle.plan.specs.Parts.{Given, linkStart}
+use Rattle.plan.specs.Rows.{digit, digits, link, chain, values}
 use Rattle.plan.specs.declared.numbers.Plan.{Plan}
 use Rattle.plan.proofs.Bounds.{prime-low}
 use Rattle.plan.proofs.Digits.{digit-below}
 
-pub chain-length : (P : Plan) (w T : List ℕ) (i k : ℕ) → length (chain P w T i k) ≡ P .n + k
+pub chain-length : (G : Given) (i k : ℕ) → length (chain G i k) ≡ G .numbers .n + k
 unfolding chain
-chain-length P w T i zero = tab-length (P .n) (digit P i) ∙ sym (add-zero (P .n))
-chain-length P w T i (suc k) =
-    length-append (chain P w T i k) (link P w T (chain P w T i k) k ∷ []) ∙ omega (arith, chain-length P w T i k)
+chain-length G i zero = tab-length (G .numbers .n) (digit (G .numbers) i) ∙ sym (add-zero (G .numbers .n))
+chain-length G i (suc k) =
+    length-append (chain G i k) (link (G .numbers) (G .weights) (G .tables) (chain G i k) k ∷ []) ∙ omega (arith, chain-length G i k)
 
-module _ (P : Plan) (w T : List ℕ) (i : ℕ) (within : Within P) (tables : Residues (P .p) T) where
-  positive : 0 < P .p
+module _ (G : Given) (i : ℕ) (within : Within (G .numbers)) (tables : Residues (G .numbers .p) (G .tables)) where
+  positive : 0 < G .numbers .p
   positive = omega (arith, prime-low within)
 
-  link-residue : (xs : List ℕ) (k : ℕ) → link P w T xs k < P .p
+  link-residue : (xs : List ℕ) (k : ℕ) → link (G .numbers) (G .weights) (G .tables) xs k < G .numbers .p
   unfolding link
-  link-residue xs k = tables (k * P .p + sum (λ j. at w (linkStart P k + j) * at xs j) (P .n + k) % P .p)
+  link-residue xs k =
+      let P = G .numbers in
+      tables (k * P .p + sum (λ j. at (G .weights) (linkStart P k + j) * at xs j) (P .n + k) % P .p)
 
-  pub chain-residues : (k : ℕ) → Residues (P .p) (chain P w T i k)
+  pub chain-residues : (k : ℕ) → Residues (G .numbers .p) (chain G i k)
   unfolding chain
   chain-residues zero =
-      residues-tab (P .p) (P .n) (digit P i) positive (λ j l. omega (arith, digit-below P i j within, within .radix-high))
+      residues-tab (G .numbers .p) (G .numbers .n) (digit (G .numbers) i) positive
+      (λ j l. omega (arith, digit-below (G .numbers) i j within, within .radix-high))
   chain-residues (suc k) =
-      residues-snoc (P .p) (chain P w T i k) (link P w T (chain P w T i k) k) positive
-      (link-residue (chain P w T i k) k) (chain-residues k)
+      residues-snoc (G .numbers .p) (chain G i k) (link (G .numbers) (G .weights) (G .tables) (chain G i k) k) positive
+      (link-residue (chain G i k) k) (chain-residues k)
 
-  pub values-residues : Residues (P .p) (values P w T i)
+  pub values-residues : Residues (G .numbers .p) (values G i)
   unfolding values
-  values-residues = chain-residues (P .m)
+  values-residues = chain-residues (G .numbers .m)
 
-pub values-length : (P : Plan) (w T : List ℕ) (i : ℕ) → length (values P w T i) ≡ variables P
+pub values-length : (G : Given) (i : ℕ) → length (values G i) ≡ variables (G .numbers)
 unfolding values
-values-length P w T i = chain-length P w T i (P .m)
+values-length G i = chain-length G i (G .numbers .m)
 
 -- link k's weights and table lie within their parts
 pub link-room : (P : Plan) (w : List ℕ) (begin k : ℕ) → length w ≡ linkStart P (P .m) → begin ≡ linkStart P k → k < P .m → begin + (P .n + k) ≤ length w
@@ -82,43 +85,46 @@ link-of-parts P w T xs begin k hbegin room pos =
     part = take (P .n + k) (drop (linkStart P k) w)
 
 -- the state of a loop over the links: the first n + k places of x are the chain, and link k's weights begin at `begin`
-pub record Linked (P : Plan) (w T : List ℕ) (i k begin : ℕ) (x : List ℕ) : Type 0 where
-  pub within : k ≤ P .m
-  pub begins : begin ≡ linkStart P k
-  pub size : length x ≡ variables P
-  pub done : take (P .n + k) x ≡ chain P w T i k
+pub record Linked (G : Given) (i k begin : ℕ) (x : List ℕ) : Type 0 where
+  pub within : k ≤ G .numbers .m
+  pub begins : begin ≡ linkStart (G .numbers) k
+  pub size : length x ≡ variables (G .numbers)
+  pub done : take (G .numbers .n + k) x ≡ chain G i k
 
-pub linked-none : (P : Plan) (w T : List ℕ) (i : ℕ) (digits e : List ℕ) → digits ≡ tab (P .n) (digit P i) → length e ≡ variables P
-    → Linked P w T i 0 0 (digits ++ drop (P .n) e)
+pub linked-none : (G : Given) (i : ℕ) (xs e : List ℕ) → xs ≡ digits G i → length e ≡ variables (G .numbers)
+    → Linked G i 0 0 (xs ++ drop (G .numbers .n) e)
 unfolding chain
-linked-none P w T i digits e hd he =
+linked-none G i xs e hd he =
+    let n = G .numbers .n in
     record {
       within = omega arith;
-      begins = sym (sum-zero (λ j. P .n + j));
-      size = length-append digits (drop (P .n) e) ∙ rw length-drop (omega (arith, count));
-      done = ap (λ (j : ℕ). take j (digits ++ drop (P .n) e)) (add-zero (P .n)) ∙ take-at digits (drop (P .n) e) (P .n) count ∙ hd;
+      begins = sym (sum-zero (λ j. n + j));
+      size = length-append xs (drop n e) ∙ rw length-drop (omega (arith, count));
+      done = ap (λ (j : ℕ). take j (xs ++ drop n e)) (add-zero n) ∙ take-at xs (drop n e) n count ∙ hd;
     }
   where
-    count : length digits ≡ P .n
-    count = ap length hd ∙ tab-length (P .n) (digit P i)
+    count : length xs ≡ G .numbers .n
+    count = ap length hd ∙ tab-length (G .numbers .n) (digit (G .numbers) i)
 
-pub linked-next : {P : Plan} {w T : List ℕ} {i k begin : ℕ} {x : List ℕ} (v : ℕ) → Linked P w T i k begin x → k < P .m → v ≡ link P w T (chain P w T i k) k
-    → Linked P w T i (k + 1) (begin + (P .n + k)) (set x (P .n + k) v)
+pub linked-next : {G : Given} {i k begin : ℕ} {x : List ℕ} (v : ℕ) → Linked G i k begin x → k < G .numbers .m
+    → v ≡ link (G .numbers) (G .weights) (G .tables) (chain G i k) k
+    → Linked G i (k + 1) (begin + (G .numbers .n + k)) (set x (G .numbers .n + k) v)
 unfolding chain
-linked-next {P} {w} {T} {i} {k} {begin} {x} v l h hv =
+linked-next {G} {i} {k} {begin} {x} v l h hv =
+    let n = G .numbers .n in
     record {
       within = omega arith;
-      begins = ap (λ (a : ℕ). a + (P .n + k)) (l .begins) ∙ sym (sum-next (λ j. P .n + j) k);
-      size = length-set x (P .n + k) v ∙ l .size;
+      begins = ap (λ (a : ℕ). a + (n + k)) (l .begins) ∙ sym (sum-next (λ j. n + j) k);
+      size = length-set x (n + k) v ∙ l .size;
       done =
-          ap (λ (j : ℕ). take j (set x (P .n + k) v)) (ap (λ (j : ℕ). P .n + j) (add-one k) ∙ add-suc (P .n) k)
-          ∙ take-suc-set x (P .n + k) v (omega arith)
+          ap (λ (j : ℕ). take j (set x (n + k) v)) (ap (λ (j : ℕ). n + j) (add-one k) ∙ add-suc n k)
+          ∙ take-suc-set x (n + k) v (omega arith)
           ∙ ap₂ (λ (a : List ℕ) (b : ℕ). a ++ (b ∷ [])) (l .done) hv
-          ∙ ap (chain P w T i) (sym (add-one k));
+          ∙ ap (chain G i) (sym (add-one k));
     }
 
-pub linked-all : {P : Plan} {w T : List ℕ} {i k begin : ℕ} {x : List ℕ} → Linked P w T i k begin x → P .m ≤ k → x ≡ values P w T i
+pub linked-all : {G : Given} {i k begin : ℕ} {x : List ℕ} → Linked G i k begin x → G .numbers .m ≤ k → x ≡ values G i
 unfolding values
-linked-all {P} {w} {T} {i} {k} {begin} {x} l h =
-    let e : k ≡ P .m = omega arith in
-    sym (take-all (P .n + k) x (omega arith)) ∙ l .done ∙ ap (chain P w T i) e
+linked-all {G} {i} {k} {begin} {x} l h =
+    let e : k ≡ G .numbers .m = omega arith in
+    sym (take-all (G .numbers .n + k) x (omega arith)) ∙ l .done ∙ ap (chain G i) e

@@ -1,6 +1,8 @@
 -- The theory of `plan`: it knows the definitions of specs/ and no code.
 pub mod Bounds
 pub mod Refusals
+pub mod Limits
+pub mod Admitting
 pub mod Digits
 pub mod Chains
 pub mod Blocks

@@ -11,6 +11,7 @@ use Rattle.lists.proofs.Sums.{sum-ext, sum-mul, sum-next, sum-blocks}
 use Rattle.lists.proofs.Tabs.{tab-at}
 use Rattle.field.proofs.Modular.{sum-cong, cong-add, mul-mod-l}
 use Rattle.plan.specs.Numbers.{variables, columns}
+use Rattle.plan.specs.Parts.{Given}
 use Rattle.plan.specs.Rows.{weighted, rowPlace, row, values}
 use Rattle.plan.specs.Equation.{equation1, reproduced}
 use Rattle.plan.specs.declared.numbers.Plan.{Plan}
@@ -53,10 +54,11 @@ module _ (P : Plan) (d β xs : List ℕ) where
       ∙ cong-add (P .p) (sum block (P .t)) (sum (λ b. left b * weighted P d xs b) (P .t)) (block (P .t)) (left (P .t))
       (sum-cong (P .p) block (λ b. left b * weighted P d xs b) (P .t) product-sum) (ap (λ (z : ℕ). z % P .p) last-sum)
 
-pub row-times : (P : Plan) (w T d β : List ℕ) (i : ℕ) → reproduced P w T d i β % P .p ≡ equation1 P d β (values P w T i) % P .p
+pub row-times : (G : Given) (β : List ℕ) (i : ℕ) → reproduced G i β % G .numbers .p ≡ equation1 (G .numbers) (G .products) β (values G i) % G .numbers .p
 unfolding reproduced row
-row-times P w T d β i =
+row-times G β i =
+    let P = G .numbers in
     ap (λ (z : ℕ). z % P .p)
-    (sum-ext (λ c. at (row P w T d i) c * at β c) (λ c. rowPlace P d (values P w T i) c * at β c) (columns P)
-    (λ c l. ap (λ (z : ℕ). z * at β c) (tab-at (columns P) (rowPlace P d (values P w T i)) 0 c l)))
-    ∙ columns-times P d β (values P w T i)
+    (sum-ext (λ c. at (row G i) c * at β c) (λ c. rowPlace P (G .products) (values G i) c * at β c) (columns P)
+    (λ c l. ap (λ (z : ℕ). z * at β c) (tab-at (columns P) (rowPlace P (G .products) (values G i)) 0 c l)))
+    ∙ columns-times P (G .products) β (values G i)

@@ -15,7 +15,7 @@ abbrev pub first : List (ℕ × Bool) → ℕ
 first [] = 0
 first (cause ∷ causes) = cond (cause .1) (cause .0) (first causes)
 
-abbrev pub result : ℕ → List ℕ → List ℕ → List ℕ
+abbrev pub result {ℓ} : {A : Type ℓ} → ℕ → List A → List A → List A
 result zero new old = new
 result (suc k) new old = old
 

@@ -1,14 +1,18 @@
--- 01, "The plan": the parts that a plan carries, one flat slice each, and causes 4 and 5.
+-- 01, "The plan": a plan as it is lent, its five numbers and the parts that it carries, one flat slice each; and causes 4 and 5.
 -- "link weights: link k (from 0) has n+k weights, links in order; link tables: p values each, for the sums 0 to p−1 in order; product
 -- weights d: t rows of L. All are residues 0 to p−1, one byte each." Stands on `Numbers`, and on `field` for rows of residues.
+--     Given                       a plan as lent; `lend P w T d`: of these numbers and parts, `given p s n m t w T d`: of these five numbers
 --     linkStart P k               where link k's weights begin: after the n + i weights of each link i before it
 --     lengthsFit P w T d          each part has the length that the plan says, as a test
 --     valuesFit P w T d           each weight and table value is below p, as a test
---     partCauses P w T d own      causes 4 and 5; own says whether the call's own part has the length that the plan says
---     callCauses                  all causes of a call that is lent a plan: 1 to 3, 4 and 5, then the call's own, over the plan
---     Lent P w T d                the parts meet neither of causes 4 and 5
+--     storeSize C                 the bytes of a store, "C rows of C+1 bytes"
+--     ownFits own P               the call's own parts have the lengths that the plan says: a row or β has C places, digits are n
+--     partCauses G fits           causes 4 and 5; fits says whether the call's own parts have their lengths
+--     callCauses G own rest       all causes of a call that is lent a plan: 1 to 3, 4 and 5, then the rest, the call's own
+--     admitted G own              what every call goes on with: the plan's numbers, or the first of causes 1 to 5
+--     Lent G                      the parts meet neither of causes 4 and 5
 use mathlib.Core.Path.{_≡_}
-use mathlib.Core.Bool.{Bool, not, _&&_}
+use mathlib.Core.Bool.{Bool, true, not, _&&_}
 use mathlib.Core.List.{List, [], _∷_, _++_}
 use Prim.Native.Nat.{ℕ, _+_, _*_}
 use lib.Dec.{eqb}
@@ -16,8 +20,23 @@ use lib.ListN.{length}
 use Rattle.lists.specs.Places.{sum}
 use Rattle.field.specs.Residues.{Residues}
 use Rattle.field.specs.Rows.{allBelow}
-use Rattle.plan.specs.Numbers.{variables, numberCauses, plan}
+use Rattle.plan.specs.Causes.{first, Answer, answer}
+use Rattle.plan.specs.Numbers.{variables, columns, numberCauses, plan, numbersOf}
 use Rattle.plan.specs.declared.numbers.Plan.{Plan}
+use Rattle.plan.specs.declared.admission.Own.{Own}
+use Rattle.plan.specs.declared.admission.Own.the-variants.{Nothing, Row, Store, StoreAndRow, Digits}
+
+pub record Given : Type 0 where
+  pub numbers : Plan
+  pub weights : List ℕ
+  pub tables : List ℕ
+  pub products : List ℕ
+
+abbrev pub lend : Plan → List ℕ → List ℕ → List ℕ → Given
+lend P w T d = record { numbers = P; weights = w; tables = T; products = d }
+
+abbrev pub given : ℕ → ℕ → ℕ → ℕ → ℕ → List ℕ → List ℕ → List ℕ → Given
+given p s n m t w T d = lend (plan p s n m t) w T d
 
 abbrev pub linkStart : Plan → ℕ → ℕ
 linkStart P k = sum (λ i. P .n + i) k
@@ -29,17 +48,35 @@ lengthsFit P w T d =
 unfoldable pub valuesFit : Plan → List ℕ → List ℕ → List ℕ → Bool
 valuesFit P w T d = allBelow (P .p) w && (allBelow (P .p) T && allBelow (P .p) d)
 
-abbrev pub partCauses : Plan → List ℕ → List ℕ → List ℕ → Bool → List (ℕ × Bool)
-partCauses P w T d own = (4, not (lengthsFit P w T d && own)) ∷ (5, not (valuesFit P w T d)) ∷ []
+unfoldable pub storeSize : ℕ → ℕ
+storeSize C = C * (C + 1)
 
-unfoldable pub callCauses : ℕ → ℕ → ℕ → ℕ → ℕ → List ℕ → List ℕ → List ℕ → (Plan → Bool) → (Plan → List (ℕ × Bool)) → List (ℕ × Bool)
-callCauses p s n m t w T d own rest =
-    numberCauses p s n m t ++ (partCauses (plan p s n m t) w T d (own (plan p s n m t)) ++ rest (plan p s n m t))
+-- "a lent part (weights, tables, d, row, β, store, digits) of another length than the plan says": the last four, by the lengths lent
+abbrev pub ownFits : Own → Plan → Bool
+ownFits Nothing P = true
+ownFits (Row k) P = eqb k (columns P)
+ownFits (Store k) P = eqb k (storeSize (columns P))
+ownFits (StoreAndRow k j) P = eqb k (storeSize (columns P)) && eqb j (columns P)
+ownFits (Digits k) P = eqb k (P .n)
 
-pub record Lent (P : Plan) (w T d : List ℕ) : Type 0 where
-  pub weights-length : length w ≡ linkStart P (P .m)
-  pub tables-length : length T ≡ P .m * P .p
-  pub products-length : length d ≡ P .t * variables P
-  pub weights-residues : Residues (P .p) w
-  pub tables-residues : Residues (P .p) T
-  pub products-residues : Residues (P .p) d
+abbrev pub partCauses : Given → Bool → List (ℕ × Bool)
+partCauses G fits =
+    (4, not (lengthsFit (G .numbers) (G .weights) (G .tables) (G .products) && fits))
+    ∷ (5, not (valuesFit (G .numbers) (G .weights) (G .tables) (G .products)))
+    ∷ []
+
+unfoldable pub callCauses : Given → Own → (Given → List (ℕ × Bool)) → List (ℕ × Bool)
+callCauses G own rest =
+    let P = G .numbers in
+    numberCauses (P .p) (P .s) (P .n) (P .m) (P .t) ++ (partCauses G (ownFits own P) ++ rest G)
+
+unfoldable pub admitted : Given → Own → Answer
+admitted G own = answer (first (callCauses G own (λ _. []))) (numbersOf (G .numbers))
+
+pub record Lent (G : Given) : Type 0 where
+  pub weights-length : length (G .weights) ≡ linkStart (G .numbers) (G .numbers .m)
+  pub tables-length : length (G .tables) ≡ G .numbers .m * G .numbers .p
+  pub products-length : length (G .products) ≡ G .numbers .t * variables (G .numbers)
+  pub weights-residues : Residues (G .numbers .p) (G .weights)
+  pub tables-residues : Residues (G .numbers .p) (G .tables)
+  pub products-residues : Residues (G .numbers .p) (G .products)

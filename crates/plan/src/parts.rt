@@ -40,7 +40,7 @@ fn values_fit(plan: Plan, weights: &[u8], tables: &[u8], d: &[u8]) -> bool
 // else 0. `own` says whether the call's own part has its length.
 pub fn part_refusal(plan: Plan, weights: &[u8], tables: &[u8], d: &[u8], own: bool) -> u8
     requires { ⌜ Within plan ⌝ }
-    ensures { λ r. ⌜ r ≡ first (specs.partCauses plan (now (weights .entry)) (now (tables .entry)) (now (d .entry)) own) ⌝ }
+    ensures { λ r. ⌜ r ≡ first (specs.partCauses (specs.lend plan (now (weights .entry)) (now (tables .entry)) (now (d .entry))) own) ⌝ }
 {
     if !lengths_fit(plan, weights, tables, d) {
         return 4;

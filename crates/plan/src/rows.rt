@@ -6,7 +6,7 @@ ghost use Rattle.lists.specs.Places.{tab, at};
 ghost use Rattle.field.specs.Residues.{Modulus, Residues};
 ghost use Rattle.field.specs.Rows.{dot};
 ghost use Rattle.plan.specs.Numbers.{Within, variables, columns};
-ghost use Rattle.plan.specs.Parts.{Lent};
+ghost use Rattle.plan.specs.Parts.{Lent, lend};
 ghost use Rattle.plan.specs.Rows as specs;
 use crate::numbers::Plan;
 
@@ -40,9 +40,9 @@ fn link(weights: &[u8], table: &[u8], x: &[u8], p: u8) -> u8
 // The L variables of an entry: its digits, then link after link. `begin` is where link k's weights begin.
 fn fill_variables(plan: Plan, weights: &[u8], tables: &[u8], d: &[u8], entry: usize, x: &mut [u8])
     requires { ⌜ Within plan ⌝ }
-    requires { ⌜ Lent plan (now weights) (now tables) (now d) ⌝ }
+    requires { ⌜ Lent (lend plan (now weights) (now tables) (now d)) ⌝ }
     requires { ⌜ length (now x) ≡ variables plan ⌝ }
-    ensures { λ _. ⌜ now (x .exit) ≡ specs.values plan (now (weights .entry)) (now (tables .entry)) entry ⌝ }
+    ensures { λ _. ⌜ now (x .exit) ≡ specs.values (lend plan (now (weights .entry)) (now (tables .entry)) (now (d .entry))) entry ⌝ }
 {
     let n = plan.n;
     let p = plan.p;
@@ -93,9 +93,9 @@ fn fill_blocks(plan: Plan, d: &[u8], x: &[u8], row: &mut [u8])
 // Row `entry` of a checked plan with its parts as lent.
 pub fn fill_row(plan: Plan, weights: &[u8], tables: &[u8], d: &[u8], entry: usize, row: &mut [u8])
     requires { ⌜ Within plan ⌝ }
-    requires { ⌜ Lent plan (now weights) (now tables) (now d) ⌝ }
+    requires { ⌜ Lent (lend plan (now weights) (now tables) (now d)) ⌝ }
     requires { ⌜ length (now row) ≡ columns plan ⌝ }
-    ensures { λ _. ⌜ now (row .exit) ≡ specs.row plan (now (weights .entry)) (now (tables .entry)) (now (d .entry)) entry ⌝ }
+    ensures { λ _. ⌜ now (row .exit) ≡ specs.row (lend plan (now (weights .entry)) (now (tables .entry)) (now (d .entry))) entry ⌝ }
 {
     let mut x = [0u8; Plan::VARIABLES];
     let l = plan.variables();

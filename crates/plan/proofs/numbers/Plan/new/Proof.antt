@@ -6,7 +6,7 @@ use native.Mathlib.Nat.{mul-le-mul}
 use native.Mathlib.Omega.{arith}
 use borrow.Author.Tests.{not-true, not-false}
 use Rattle.field.proofs.PrimeTable.{oddPrime-means}
-use Rattle.plan.proofs.Refusals.{refused-prime, refused-radix, refused-range, accepts}
+use Rattle.plan.proofs.Limits.{refused-prime, refused-radix, refused-range, accepts}
 use borrow.Author.Needs.{needs}
 use Rattle.plan.proofs.numbers.Plan.new.Statement.{statement}
 use Rattle.plan.proofs.numbers.Plan.new.Tie as tie

@@ -1,14 +1,12 @@
 // The entry points: any numbers and bytes are taken, and the answer is the number of the refusal, 0 where there is none.
 ghost use mathlib.Core.Path.{_≡_};
-ghost use mathlib.Core.Bool.{true};
 ghost use mathlib.Core.List.{[]};
 ghost use Rattle.plan.specs.Causes.{first, result};
-ghost use Rattle.plan.specs.Numbers.{plan};
-ghost use Rattle.plan.specs.Parts.{callCauses};
+ghost use Rattle.plan.specs.Parts.{given, callCauses};
 ghost use Rattle.plan.specs.Rows as specs;
+use crate::admission::Own;
+use crate::admission::admit;
 use crate::numbers::Checked;
-use crate::numbers::Plan;
-use crate::parts::part_refusal;
 use crate::rows::fill_row;
 
 // Checks a plan: causes 1 to 5.
@@ -22,11 +20,11 @@ pub fn check(
     tables: &[u8],
     d: &[u8],
 ) -> u8
-    ensures { λ r. ⌜ r ≡ first (callCauses p s n m t (now (weights .entry)) (now (tables .entry)) (now (d .entry)) (λ _. true) (λ _. [])) ⌝ }
+    ensures { λ r. ⌜ r ≡ first (callCauses (given p s n m t (now (weights .entry)) (now (tables .entry)) (now (d .entry))) Own.Nothing (λ _. [])) ⌝ }
 {
-    match Plan::new(p, s, n, m, t) {
+    match admit(p, s, n, m, t, weights, tables, d, Own::Nothing) {
         Checked::Refused(k) => k,
-        Checked::Accepted(plan) => part_refusal(plan, weights, tables, d, true),
+        Checked::Accepted(_) => 0,
     }
 }
 
@@ -43,16 +41,12 @@ pub fn row(
     entry: usize,
     row: &mut [u8],
 ) -> u8
-    ensures { λ r. ⌜ r ≡ first (specs.rowCauses p s n m t (now (weights .entry)) (now (tables .entry)) (now (d .entry)) entry (now (row .entry))) ⌝ }
-    ensures { λ r. ⌜ now (row .exit) ≡ result r (specs.row (plan p s n m t) (now (weights .entry)) (now (tables .entry)) (now (d .entry)) entry) (now (row .entry)) ⌝ }
+    ensures { λ r. ⌜ r ≡ first (specs.rowCauses (given p s n m t (now (weights .entry)) (now (tables .entry)) (now (d .entry))) entry (now (row .entry))) ⌝ }
+    ensures { λ r. ⌜ now (row .exit) ≡ result r (specs.row (given p s n m t (now (weights .entry)) (now (tables .entry)) (now (d .entry))) entry) (now (row .entry)) ⌝ }
 {
-    match Plan::new(p, s, n, m, t) {
+    match admit(p, s, n, m, t, weights, tables, d, Own::Row(row.len())) {
         Checked::Refused(k) => k,
         Checked::Accepted(plan) => {
-            let k = part_refusal(plan, weights, tables, d, row.len() == plan.columns());
-            if k != 0 {
-                return k;
-            }
             if plan.entries() <= entry {
                 return 7;
             }

@@ -1,0 +1,67 @@
+-- `plan::admission::own_fits` meets its contract, by the kind of the call's own parts. Assumes nothing.
+use mathlib.Core.Path.{sym}
+use borrow.Author.Tests.{eq-eqb, ne-eqb}
+use borrow.Author.Needs.{needs}
+use Rattle.plan.proofs.admission.own_fits.Statement.{statement}
+use Rattle.plan.proofs.admission.own_fits.Tie as tie
+
+columns-requires : tie.Need-columns-requires
+columns-requires c κs = search needs
+
+enum-told : tie.Need-enum-told
+enum-told c = search needs
+
+enum-known-own : tie.Need-enum-known-own
+enum-known-own c = search needs
+
+enum-known-own-2 : tie.Need-enum-known-own-2
+enum-known-own-2 c = search needs
+
+store-size-requires : tie.Need-store-size-requires
+store-size-requires c κs = search needs
+
+enum-known-own-3 : tie.Need-enum-known-own-3
+enum-known-own-3 c = search needs
+
+store-size-requires-2 : tie.Need-store-size-requires-2
+store-size-requires-2 c κs = search needs
+
+returns : tie.Need-returns
+returns c = rw (c .before .before .before .own3 .given .1, sym (c .before .before .before .before .before .columns .ensures), sym (c .before .store-size2 .ensures), ne-eqb _ _ (c .if1 .taken))
+
+enum-known-own-4 : tie.Need-enum-known-own-4
+enum-known-own-4 c = search needs
+
+returns-2 : tie.Need-returns-2
+returns-2 c = search needs
+
+returns-3 : tie.Need-returns-3
+returns-3 c = rw (c .before .own .given .1, sym (c .before .before .before .columns .ensures))
+
+returns-4 : tie.Need-returns-4
+returns-4 c = rw (c .before .before .own2 .given .1, sym (c .before .before .before .before .columns .ensures), sym (c .store-size .ensures))
+
+returns-5 : tie.Need-returns-5
+returns-5 c = rw (c .before .before .before .own3 .given .1, sym (c .before .before .before .before .before .columns .ensures), sym (c .before .store-size2 .ensures), eq-eqb _ _ (c .if1 .left))
+
+returns-6 : tie.Need-returns-6
+returns-6 c = rw (c .before .before .own4 .given .1)
+
+pub own-fits-spec : {M : Type 1} → statement M
+own-fits-spec =
+    tie.close
+    (tie.spec
+    columns-requires
+    enum-told
+    enum-known-own
+    enum-known-own-2
+    store-size-requires
+    enum-known-own-3
+    store-size-requires-2
+    returns
+    enum-known-own-4
+    returns-2
+    returns-3
+    returns-4
+    returns-5
+    returns-6)

@@ -1,0 +1,71 @@
+// What every call that is lent a plan does first: causes 1 to 5, with the call's own parts among those of cause 4.
+ghost use mathlib.Core.Path.{_≡_};
+ghost use Prim.Native.Nat.{_≤_};
+ghost use Rattle.plan.specs.Numbers.{Within, answerOf};
+ghost use Rattle.plan.specs.Parts as specs;
+use crate::numbers::Checked;
+use crate::numbers::Plan;
+use crate::parts::part_refusal;
+
+// The call's own parts, by the lengths in which they were lent.
+pub enum Own {
+    Nothing,
+    Row(usize),
+    Store(usize),
+    StoreAndRow(usize, usize),
+    Digits(usize),
+}
+
+// The bytes of a store of C columns.
+pub fn store_size(c: usize) -> usize
+    requires { ⌜ c ≤ 1024 ⌝ }
+    ensures { λ r. ⌜ r ≡ specs.storeSize c ⌝ }
+{
+    c * (c + 1)
+}
+
+// Whether they have the lengths that the plan says.
+fn own_fits(own: Own, plan: Plan) -> bool
+    requires { ⌜ Within plan ⌝ }
+    ensures { λ r. ⌜ r ≡ specs.ownFits own plan ⌝ }
+{
+    let c = plan.columns();
+    match own {
+        Own::Nothing => true,
+        Own::Row(k) => k == c,
+        Own::Store(k) => k == store_size(c),
+        Own::StoreAndRow(k, j) => {
+            if k != store_size(c) {
+                return false;
+            }
+            j == c
+        }
+        Own::Digits(k) => k == plan.n,
+    }
+}
+
+// The checked plan, or the first of causes 1 to 5.
+pub fn admit(
+    p: usize,
+    s: usize,
+    n: usize,
+    m: usize,
+    t: usize,
+    weights: &[u8],
+    tables: &[u8],
+    d: &[u8],
+    own: Own,
+) -> Checked
+    ensures { λ r. ⌜ answerOf r ≡ specs.admitted (specs.given p s n m t (now (weights .entry)) (now (tables .entry)) (now (d .entry))) own ⌝ }
+{
+    match Plan::new(p, s, n, m, t) {
+        Checked::Refused(k) => Checked::Refused(k),
+        Checked::Accepted(plan) => {
+            let k = part_refusal(plan, weights, tables, d, own_fits(own, plan));
+            if k != 0 {
+                return Checked::Refused(k);
+            }
+            Checked::Accepted(plan)
+        }
+    }
+}
