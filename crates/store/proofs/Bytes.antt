@@ -14,7 +14,8 @@ use lib.Arith.{digits-lt, digits-div, digits-mod}
 use lib.ListN.{length}
 use Rattle.lists.specs.Places.{at}
 use Rattle.lists.proofs.Tabs.{tab-length, tab-at, tab-ext, is-tab}
-use Rattle.store.specs.Elimination.{storeSize, rowStart, cells, flat}
+use Rattle.plan.specs.Parts.{storeSize}
+use Rattle.store.specs.Elimination.{rowStart, cells, flat}
 
 pub flat-length : (C : ℕ) (S : ℕ → ℕ → ℕ) → length (flat C S) ≡ storeSize C
 unfolding flat

@@ -25,7 +25,8 @@ use Rattle.field.specs.Residues.{Residues, inverse}
 use Rattle.field.specs.Rows.{multiple, plusMultiple}
 use Rattle.field.proofs.Ranges.{residues-tab}
 use Rattle.field.proofs.Modular.{cong-of}
-use Rattle.store.specs.Elimination.{ZeroRow, Reduced, normal, inserted, storeSize, rowStart, cells, flat}
+use Rattle.plan.specs.Parts.{storeSize}
+use Rattle.store.specs.Elimination.{ZeroRow, Reduced, normal, inserted, rowStart, cells, flat}
 use Rattle.store.specs.Stages.{Line, cleared}
 use Rattle.store.proofs.Bytes.{flat-length, cells-flat, flat-cells, flat-ext}
 use Rattle.store.proofs.ReducedForm.{left-zero}

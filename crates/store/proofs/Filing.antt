@@ -5,18 +5,22 @@
 --     resolved-reduced       a filing keeps reduced form
 --     resolved-solves        if it is no contradiction, the solutions left are the old ones that satisfy e
 --     after-reduced, after-solves     the same of `after`
+--     stored-reads, stored-reduced, stored-solves     its bytes: they are read as it is, so they have the same properties
 -- The residual's first nonzero column is no pivot's, since there the residual is zero, so its row is free.
 -- Assumes nothing.
-use mathlib.Core.Path.{_≡_, refl}
+use mathlib.Core.Path.{_≡_, refl, sym}
 use mathlib.Core.Bool.{true}
-use mathlib.Core.Logic.{⊎-elim, _↔_, _≢_}
+use mathlib.Core.Logic.{⊎-elim, _↔_, Iff·trans, _≢_}
+use mathlib.Core.List.{List}
 use Prim.Native.Nat.{ℕ, _≤_, _<_}
 use native.Mathlib.Nat.{le-of-lt}
 use native.Mathlib.Omega.{arith}
 use Rattle.field.specs.Primes.{oddPrime}
 use Rattle.field.proofs.PrimeTable.{oddPrime-means}
-use Rattle.store.specs.Elimination.{Satisfies, Solves, Pivot, Reduced, Outcome, contradiction, residual, normal, inserted, outcome, after}
+use Rattle.store.specs.Elimination.{Satisfies, Solves, Pivot, Reduced, Outcome, contradiction, residual, normal, inserted, outcome, after, cells, flat}
 use Rattle.store.proofs.Combinations.{satisfies-zero}
+use Rattle.store.proofs.ReducedForm.{flat-reads, flat-reduced}
+use Rattle.store.proofs.SamePlaces.{solves-ext}
 use Rattle.store.proofs.Residuals.{residual-small, residual-pivot, residual-satisfies, normal-small, normal-zero, normal-one, normal-satisfies}
 use Rattle.store.proofs.Answers.{Resolved, resolved-new, resolved-implied, resolved-contradiction, resolves}
 use Rattle.store.proofs.Inserting.{Fits, inserted-reduced, inserted-solves}
@@ -80,3 +84,23 @@ module _ (p C : ℕ) (prime : oddPrime p ≡ true) (S : ℕ → ℕ → ℕ) (e 
 
   pub after-solves : outcome p C S e ≢ contradiction → (β : ℕ → ℕ) → Solves p C (after p C S e) β ↔ (Solves p C S β × Satisfies p C e β)
   after-solves = resolved-solves (resolves p C S e)
+
+-- the bytes of the store after filing e into the bytes `store`
+module _ (p C : ℕ) (prime : oddPrime p ≡ true) (store : List ℕ) (e : ℕ → ℕ) (red : Reduced p C (cells C store)) (eqn : Equation p C e) where
+  pub stored-reads : (q j : ℕ) → q < C → j ≤ C → cells C (flat C (after p C (cells C store) e)) q j ≡ after p C (cells C store) e q j
+  stored-reads = flat-reads p C (after p C (cells C store) e) (after-reduced p C prime (cells C store) e red eqn)
+
+  pub stored-reduced : Reduced p C (cells C (flat C (after p C (cells C store) e)))
+  stored-reduced = flat-reduced p C (after p C (cells C store) e) (after-reduced p C prime (cells C store) e red eqn)
+
+  pub stored-solves : outcome p C (cells C store) e ≢ contradiction → (β : ℕ → ℕ)
+      → Solves p C (cells C (flat C (after p C (cells C store) e))) β ↔ (Solves p C (cells C store) β × Satisfies p C e β)
+  stored-solves kept β = Iff·trans
+      (
+        solves-ext p C (cells C (flat C T)) T stored-reads β β (λ j l. refl),
+        solves-ext p C T (cells C (flat C T)) (λ q j l k. sym (stored-reads q j l k)) β β (λ j l. refl),
+      )
+      (after-solves p C prime (cells C store) e red eqn kept β)
+    where
+      T : ℕ → ℕ → ℕ
+      T = after p C (cells C store) e

@@ -7,15 +7,16 @@ pub mod Combinations
 pub mod ReducedForm
 pub mod Residuals
 pub mod Inserting
+pub mod SamePlaces
 pub mod Answers
 pub mod Filing
-pub mod SamePlaces
 pub mod ReadingOff
 pub mod Contradictions
 pub mod Implications
 pub mod Uniqueness
 pub mod Spans
 pub mod FilingSpans
+pub mod Holding
 pub mod Pasting
 pub mod OneReading
 pub mod Multiples

@@ -23,7 +23,8 @@ use Rattle.lists.specs.Places.{every, tab, at}
 use Rattle.lists.proofs.Tests.{every-at, every-of}
 use Rattle.lists.proofs.Tabs.{tab-length, tab-at}
 use Rattle.lists.proofs.Parts.{part-length, part-at, at-past}
-use Rattle.store.specs.Elimination.{ZeroRow, Pivot, Reduced, isReduced, storeSize, rowStart, cells}
+use Rattle.plan.specs.Parts.{storeSize}
+use Rattle.store.specs.Elimination.{ZeroRow, Pivot, Reduced, isReduced, rowStart, cells}
 use Rattle.store.specs.Reading.{bound, rowFits}
 use Rattle.store.proofs.RowStarts.{start-next, start-last, row-end}
 use Rattle.store.proofs.ReducedForm.{isReduced-means}

@@ -8,64 +8,65 @@ use mathlib.Core.Path.{_≡_, sym, ap, _∙_}
 use mathlib.Core.Bool.{false, true≢false}
 use mathlib.Core.Logic.{_↔_, Iff·symm, Iff·trans}
 use mathlib.Core.List.{List}
-use Prim.Native.Nat.{ℕ, _+_, _<_}
+use Prim.Native.Nat.{ℕ, _+_, _≤_, _<_}
 use native.Mathlib.Omega.{arith}
-use Rattle.plan.specs.declared.numbers.Plan.{Plan}
 use Rattle.plan.specs.Causes.{first}
 use Rattle.plan.specs.Numbers.{columns, Within}
-use Rattle.plan.specs.Parts.{Lent}
+use Rattle.plan.specs.Parts.{Given, Lent}
 use Rattle.lists.specs.Places.{at}
-use Rattle.store.specs.Elimination.{Satisfies, Solves, outcome, after, cells}
+use Rattle.store.specs.Elimination.{Satisfies, Solves, after, cells}
 use Rattle.store.specs.Filings.{isContradiction}
 use Rattle.store.specs.Stages.{Ready}
-use Rattle.store.specs.Calls.{equation, fileCauses, filed}
+use Rattle.store.specs.Calls.{equation, outcomeOf, fileCauses, filed}
 use Rattle.store.specs.Span.{withRow, Spans, OneReduced}
-use Rattle.store.proofs.Bytes.{cells-flat}
+use Rattle.store.proofs.Filing.{stored-reads}
 use Rattle.store.proofs.Uniqueness.{stores-equal}
 use Rattle.store.proofs.Spans.{span-solutions, span-ext}
 use Rattle.store.proofs.FilingSpans.{after-span}
-use Rattle.store.proofs.EntryEquations.{equation-line}
+use Rattle.store.proofs.EntryEquations.{equation-residues}
 use Rattle.store.proofs.Readiness.{filed-ready, unmet}
 
-module _ (P : Plan) (w T d S : List ℕ) (i v : ℕ) where
-  pub one-reduced-form : Within P → Lent P w T d → Ready (P .p) (columns P) S → v < P .s
-      → isContradiction (outcome (P .p) (columns P) (cells (columns P) S) (equation P w T d i v)) ≡ false → OneReduced P w T d S i v
+module _ (G : Given) (S : List ℕ) (i v : ℕ) where
+  pub one-reduced-form : Within (G .numbers) → Lent G → Ready (G .numbers .p) (columns (G .numbers)) S → v < G .numbers .s
+      → isContradiction (outcomeOf G S i v) ≡ false → OneReduced G S i v
   unfolding filed
   one-reduced-form within lent ready below kept =
       record {
         spans = spans;
         one = λ S′ h.
-            stores-equal p C (within .prime) S′ (filed P w T d S i v) (h .places) (spans .places) (h .reduced) (spans .reduced)
-            (λ β n r. Iff·trans (solutions S′ h (at β)) (Iff·symm (solutions (filed P w T d S i v) spans (at β))));
+            stores-equal p C (within .prime) S′ (filed G S i v) (h .places) (spans .places) (h .reduced) (spans .reduced)
+            (λ β n r. Iff·trans (solutions S′ h (at β)) (Iff·symm (solutions (filed G S i v) spans (at β))));
       }
     where
       p : ℕ
-      p = P .p
+      p = G .numbers .p
 
       C : ℕ
-      C = columns P
+      C = columns (G .numbers)
 
       e : ℕ → ℕ
-      e = equation P w T d i v
+      e = equation G i v
 
-      small : v < P .p
+      small : v < G .numbers .p
       small = omega (arith, within .radix-high)
 
-      spans : Spans P w T d S i v (filed P w T d S i v)
+      residues : (j : ℕ) → j ≤ C → e j < p
+      residues = equation-residues G i v within lent small
+
+      spans : Spans G S i v (filed G S i v)
       spans =
-          let after-ready = filed-ready P w T d S i v within lent small ready in
+          let after-ready = filed-ready G S i v within lent small ready in
           record {
             places = after-ready .places;
             reduced = after-ready .reduced;
-            span = span-ext p C (after p C (cells C S) e) C (withRow C (cells C S) e) (C + 1) (cells C (filed P w T d S i v))
-                (cells-flat C (after p C (cells C S) e))
-                (after-span p C (within .prime) (cells C S) e (ready .reduced)
-                (λ j l. equation-line P w T d i within lent v small .residues j) (λ h. true≢false (sym (ap isContradiction h) ∙ kept)));
+            span = span-ext p C (after p C (cells C S) e) C (withRow C (cells C S) e) (C + 1) (cells C (filed G S i v))
+                (stored-reads p C (within .prime) S e (ready .reduced) residues)
+                (after-span p C (within .prime) (cells C S) e (ready .reduced) residues (λ h. true≢false (sym (ap isContradiction h) ∙ kept)));
           }
 
-      solutions : (S′ : List ℕ) → Spans P w T d S i v S′ → (β : ℕ → ℕ)
+      solutions : (S′ : List ℕ) → Spans G S i v S′ → (β : ℕ → ℕ)
           → Solves p C (cells C S′) β ↔ ((q : ℕ) → q < C + 1 → Satisfies p C (withRow C (cells C S) e q) β)
       solutions S′ h = span-solutions p C (cells C S′) C (withRow C (cells C S) e) (C + 1) (h .span)
 
-  pub filed-one : first (fileCauses (P .p) (P .s) (P .n) (P .m) (P .t) w T d S i v) ≡ 0 → OneReduced P w T d S i v
-  filed-one e = let u = unmet P w T d S i v e in one-reduced-form (u .within) (u .lent) (u .ready) (u .below) (u .kept)
+  pub filed-one : first (fileCauses G S i v) ≡ 0 → OneReduced G S i v
+  filed-one e = let u = unmet G S i v e in one-reduced-form (u .within) (u .lent) (u .ready) (u .below) (u .kept)

@@ -18,7 +18,8 @@ use borrow.Author.Tests.{eq-eqb, ne-eqb, lt-ltb, le-ltb}
 use Rattle.lists.specs.Places.{tab, at}
 use Rattle.lists.proofs.Tabs.{tab-length, tab-at}
 use Rattle.field.proofs.Ranges.{residues-tab}
-use Rattle.store.specs.Elimination.{ZeroRow, Reduced, residual, lead, normal, inserted, outcome, after, storeSize, cells, flat}
+use Rattle.plan.specs.Parts.{storeSize}
+use Rattle.store.specs.Elimination.{ZeroRow, Reduced, residual, lead, normal, inserted, outcome, after, cells, flat}
 use Rattle.store.specs.Stages.{Line}
 use Rattle.store.specs.Calls.{answerOf, answered}
 use Rattle.store.specs.declared.elimination.Filed.the-variants.{New, Implied, Refused}

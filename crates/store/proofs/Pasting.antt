@@ -17,7 +17,8 @@ use Rattle.lists.specs.Places.{placed, at}
 use Rattle.lists.proofs.Parts.{part-length, part-at, at-past}
 use Rattle.lists.proofs.Placing.{placed-length, placed-before, placed-within, placed-after, lent-placed}
 use Rattle.field.specs.Residues.{Residues}
-use Rattle.store.specs.Elimination.{storeSize, rowStart, cells}
+use Rattle.plan.specs.Parts.{storeSize}
+use Rattle.store.specs.Elimination.{rowStart, cells}
 use Rattle.store.proofs.RowStarts.{row-end, rows-apart}
 
 pub record RowAt (C : ℕ) (store : List ℕ) (q begin : ℕ) : Type 0 where

@@ -1,17 +1,17 @@
 -- Where the rows of a store stand. Nothing else knows how long a row is kept or where it starts: what changes the layout changes
--- `storeSize`, `rowStart`, `cells` and `flat` of specs/, these laws, and `Bytes`.
+-- `storeSize` of `plan`, `rowStart`, `cells` and `flat` of specs/, these laws, and `Bytes`.
 --     start-zero      row 0 starts at 0
 --     start-next      a row starts where the row before it ends
 --     rows-apart      a row ends before the rows behind it start
 --     start-last      the rows fill the store
 --     row-end         a row ends within the store
---     size-limit      the store of at most 1,024 columns has at most 1,049,600 bytes
 -- Assumes nothing.
 use mathlib.Core.Path.{_≡_, refl}
 use Prim.Native.Nat.{ℕ, _+_, _≤_, _<_}
-use native.Mathlib.Nat.{zero-mul, mul-le-mul, mul-le-mul-right}
+use native.Mathlib.Nat.{zero-mul, mul-le-mul-right}
 use native.Mathlib.Omega.{arith}
-use Rattle.store.specs.Elimination.{storeSize, rowStart}
+use Rattle.plan.specs.Parts.{storeSize}
+use Rattle.store.specs.Elimination.{rowStart}
 
 pub start-zero : (C : ℕ) → rowStart C 0 ≡ 0
 unfolding rowStart
@@ -31,7 +31,3 @@ start-last C = refl
 
 pub row-end : (C q : ℕ) → q < C → rowStart C q + (C + 1) ≤ storeSize C
 row-end C q l = omega (arith, rows-apart C q C l, start-last C)
-
-pub size-limit : (C : ℕ) → C ≤ 1024 → storeSize C ≤ 1049600
-unfolding storeSize
-size-limit C l = let l′ : C + 1 ≤ 1025 = omega arith in mul-le-mul l l′

@@ -23,7 +23,8 @@ use Rattle.lists.specs.Places.{sum, at}
 use Rattle.field.specs.Primes.{oddPrime}
 use Rattle.field.specs.Residues.{Residues}
 use Rattle.field.proofs.Modular.{cong-residue}
-use Rattle.store.specs.Elimination.{Solves, ZeroRow, Pivot, Reduced, storeSize, cells}
+use Rattle.plan.specs.Parts.{storeSize}
+use Rattle.store.specs.Elimination.{Solves, ZeroRow, Pivot, Reduced, cells}
 use Rattle.store.proofs.Bytes.{flat-cells, flat-ext}
 use Rattle.lists.proofs.Sums.{sum-only}
 use Rattle.store.proofs.ReducedForm.{off-pivot}

@@ -1,42 +1,44 @@
 -- The calls on a store: what each answers and leaves, and the causes it can meet, in number order (01, "The store" and "Turned down").
--- Stands on `Elimination`, and on the rows and causes of `plan`.
---     equation P w T d i v       entry i with value v as an equation: row i, then v
+-- G is a plan as lent, P its numbers. Stands on `Elimination`, and on the rows and causes of `plan`.
+--     equation G i v             entry i with value v as an equation: row i, then v
 --     emptyStore P               "An empty store is all zeros"
---     storeFits P store          the store has C rows of C+1 bytes
+--     outcomeOf G store i v      what filing entry i with value v comes to
 --     storeCause P store         6, "store not in reduced form"
 --     valueCause P v             8, "value not below s"
---     conflictCause ..           9, "contradiction"
---     testCauses, fileCauses, coefficientsCauses       the causes of each call
+--     conflictCause G store i v  9, "contradiction"
+--     testOwn, fileOwn, coefficientsOwn                each call's own causes
+--     testCauses, fileCauses, coefficientsCauses       all causes of each call: 1 to 5 of the plan and the call's own parts, then its own
 --     answerOf a                 01's number and values for each case of filing's answer: the pivot column of `New`, none of `Implied`, the refusal's number
 --     valuesOf o                 the values that an outcome gives
 --     answered o                 the answer by its outcome o alone, where no cause before 9 is met
---     filed                      the store after filing; what it spans is said by `Span`
+--     filed G store i v          the store after filing; what it spans is said by `Span`
 --     fileAnswer, fileStore      what `file` answers, and the store it leaves
 --     coefficients C store       the coefficients read off: "coefficient q is the right-hand side of row q"
-use mathlib.Core.Bool.{Bool, cond, not, _&&_}
+use mathlib.Core.Bool.{Bool, cond, not}
 use mathlib.Core.List.{List, [], _∷_, _++_}
-use Prim.Native.Nat.{ℕ, _+_, _*_}
-use lib.Dec.{eqb, ltb}
+use Prim.Native.Nat.{ℕ}
+use lib.Dec.{ltb}
 use lib.ListN.{length, replicate}
 use Rattle.lists.specs.Places.{tab, at}
 use Rattle.plan.specs.declared.numbers.Plan.{Plan}
-use Rattle.plan.specs.Numbers.{columns, plan}
+use Rattle.plan.specs.declared.admission.Own.the-variants.{Store, StoreAndRow}
+use Rattle.plan.specs.Numbers.{columns}
 use Rattle.plan.specs.Causes.{first, result, Answer, gives, refuses, answer}
-use Rattle.plan.specs.Parts.{callCauses}
+use Rattle.plan.specs.Parts.{Given, storeSize, callCauses}
 use Rattle.plan.specs.Rows.{row, entryCause}
-use Rattle.store.specs.Elimination.{Outcome, new, implied, contradiction, isReduced, outcome, after, readOff, storeSize, cells, flat}
+use Rattle.store.specs.Elimination.{Outcome, new, implied, contradiction, isReduced, outcome, after, readOff, cells, flat}
 use Rattle.store.specs.Filings.{isContradiction}
 use Rattle.store.specs.declared.elimination.Filed.{Filed}
 use Rattle.store.specs.declared.elimination.Filed.the-variants.{New, Implied, Refused}
 
-abbrev pub equation : Plan → List ℕ → List ℕ → List ℕ → ℕ → ℕ → ℕ → ℕ
-equation P w T d i v = at (row P w T d i ++ (v ∷ []))
+abbrev pub equation : Given → ℕ → ℕ → ℕ → ℕ
+equation G i v = at (row G i ++ (v ∷ []))
 
 abbrev pub emptyStore : Plan → List ℕ
 emptyStore P = replicate (storeSize (columns P)) 0
 
-abbrev pub storeFits : Plan → List ℕ → Bool
-storeFits P store = eqb (length store) (storeSize (columns P))
+abbrev pub outcomeOf : Given → List ℕ → ℕ → ℕ → Outcome
+outcomeOf G store i v = outcome (G .numbers .p) (columns (G .numbers)) (cells (columns (G .numbers)) store) (equation G i v)
 
 abbrev pub storeCause : Plan → List ℕ → ℕ × Bool
 storeCause P store = (6, not (isReduced (P .p) (columns P) (cells (columns P) store)))
@@ -44,21 +46,26 @@ storeCause P store = (6, not (isReduced (P .p) (columns P) (cells (columns P) st
 abbrev pub valueCause : Plan → ℕ → ℕ × Bool
 valueCause P v = (8, not (ltb v (P .s)))
 
-abbrev pub conflictCause : Plan → List ℕ → List ℕ → List ℕ → List ℕ → ℕ → ℕ → ℕ × Bool
-conflictCause P w T d store i v =
-    (9, isContradiction (outcome (P .p) (columns P) (cells (columns P) store) (equation P w T d i v)))
+abbrev pub conflictCause : Given → List ℕ → ℕ → ℕ → ℕ × Bool
+conflictCause G store i v = (9, isContradiction (outcomeOf G store i v))
 
-unfoldable pub testCauses : ℕ → ℕ → ℕ → ℕ → ℕ → List ℕ → List ℕ → List ℕ → List ℕ → List (ℕ × Bool)
-testCauses p s n m t w T d store = callCauses p s n m t w T d (λ P. storeFits P store) (λ P. storeCause P store ∷ [])
+abbrev pub testOwn : List ℕ → Given → List (ℕ × Bool)
+testOwn store G = storeCause (G .numbers) store ∷ []
 
-unfoldable pub fileCauses : ℕ → ℕ → ℕ → ℕ → ℕ → List ℕ → List ℕ → List ℕ → List ℕ → ℕ → ℕ → List (ℕ × Bool)
-fileCauses p s n m t w T d store i v =
-    callCauses p s n m t w T d (λ P. storeFits P store)
-    (λ P. storeCause P store ∷ entryCause P i ∷ valueCause P v ∷ conflictCause P w T d store i v ∷ [])
+abbrev pub testCauses : Given → List ℕ → List (ℕ × Bool)
+testCauses G store = callCauses G (Store (length store)) (testOwn store)
 
-unfoldable pub coefficientsCauses : ℕ → ℕ → ℕ → ℕ → ℕ → List ℕ → List ℕ → List ℕ → List ℕ → List ℕ → List (ℕ × Bool)
-coefficientsCauses p s n m t w T d store β =
-    callCauses p s n m t w T d (λ P. storeFits P store && eqb (length β) (columns P)) (λ P. storeCause P store ∷ [])
+abbrev pub fileOwn : List ℕ → ℕ → ℕ → Given → List (ℕ × Bool)
+fileOwn store i v G = storeCause (G .numbers) store ∷ entryCause G i ∷ valueCause (G .numbers) v ∷ conflictCause G store i v ∷ []
+
+abbrev pub fileCauses : Given → List ℕ → ℕ → ℕ → List (ℕ × Bool)
+fileCauses G store i v = callCauses G (Store (length store)) (fileOwn store i v)
+
+abbrev pub coefficientsOwn : List ℕ → Given → List (ℕ × Bool)
+coefficientsOwn store G = storeCause (G .numbers) store ∷ []
+
+abbrev pub coefficientsCauses : Given → List ℕ → List ℕ → List (ℕ × Bool)
+coefficientsCauses G store β = callCauses G (StoreAndRow (length store) (length β)) (coefficientsOwn store)
 
 -- "It answers New with the pivot column, Implied, or a refusal"
 abbrev pub answerOf : Filed → Answer
@@ -74,18 +81,16 @@ valuesOf contradiction = []
 abbrev pub answered : Outcome → Answer
 answered o = answer (cond (isContradiction o) 9 0) (valuesOf o)
 
-unfoldable pub filed : Plan → List ℕ → List ℕ → List ℕ → List ℕ → ℕ → ℕ → List ℕ
-filed P w T d store i v =
-    flat (columns P) (after (P .p) (columns P) (cells (columns P) store) (equation P w T d i v))
+unfoldable pub filed : Given → List ℕ → ℕ → ℕ → List ℕ
+filed G store i v =
+    flat (columns (G .numbers)) (after (G .numbers .p) (columns (G .numbers)) (cells (columns (G .numbers)) store) (equation G i v))
 
 unfoldable pub coefficients : ℕ → List ℕ → List ℕ
 coefficients C store = tab C (readOff C (cells C store))
 
 -- the calls as a whole, as their contracts and demand 3 say them
-abbrev pub fileAnswer : ℕ → ℕ → ℕ → ℕ → ℕ → List ℕ → List ℕ → List ℕ → List ℕ → ℕ → ℕ → Answer
-fileAnswer p s n m t w T d store i v =
-    let P = plan p s n m t in
-    answer (first (fileCauses p s n m t w T d store i v)) (valuesOf (outcome p (columns P) (cells (columns P) store) (equation P w T d i v)))
+abbrev pub fileAnswer : Given → List ℕ → ℕ → ℕ → Answer
+fileAnswer G store i v = answer (first (fileCauses G store i v)) (valuesOf (outcomeOf G store i v))
 
-abbrev pub fileStore : ℕ → ℕ → ℕ → ℕ → ℕ → List ℕ → List ℕ → List ℕ → List ℕ → ℕ → ℕ → List ℕ
-fileStore p s n m t w T d store i v = result (first (fileCauses p s n m t w T d store i v)) (filed (plan p s n m t) w T d store i v) store
+abbrev pub fileStore : Given → List ℕ → ℕ → ℕ → List ℕ
+fileStore G store i v = result (first (fileCauses G store i v)) (filed G store i v) store

@@ -1,4 +1,5 @@
--- 01, "The store": equations, reduced form, filing in closed form, reading off. Stands on `inverse` of `field`.
+-- 01, "The store": equations, reduced form, filing in closed form, reading off. Stands on `inverse` of `field`
+-- and `storeSize` of `plan`.
 -- An equation is read by place: places 0 to C - 1 are its coefficients, place C is its right-hand side. A store is read by row and
 -- column, S q j, each of its C rows an equation. Because the store is in reduced form, all multipliers of an elimination are known at
 -- once, so filing is a formula and not an algorithm.
@@ -16,8 +17,7 @@
 --     outcome p C S e        what filing e answers
 --     after p C S e          the store after filing e
 --     readOff C S q          coefficient q read off: the right-hand side of row q
---     storeSize C            the length of a store: C rows of C + 1 bytes
---     rowStart C q           where row q starts: the rows stand one after the other
+--     rowStart C q           where row q starts: the rows stand one after the other, `storeSize C` bytes in all
 --     cells C store          a store's bytes read by row and column
 --     flat C S               the bytes of such a reading
 use mathlib.Core.Path.{_≡_}
@@ -28,6 +28,7 @@ use lib.Dec.{eqb, ltb}
 use mathlib.Core.List.{List}
 use Rattle.lists.specs.Places.{sum, tab, every, at}
 use Rattle.field.specs.Residues.{inverse}
+use Rattle.plan.specs.Parts.{storeSize}
 
 abbrev pub Satisfies : ℕ → ℕ → (ℕ → ℕ) → (ℕ → ℕ) → Type 0
 Satisfies p C e β = sum (λ j. e j * β j) C % p ≡ e C % p
@@ -87,9 +88,6 @@ abbrev pub readOff : ℕ → (ℕ → ℕ → ℕ) → ℕ → ℕ
 readOff C S q = S q C
 
 -- "C rows of C+1 bytes", row after row
-unfoldable pub storeSize : ℕ → ℕ
-storeSize C = C * (C + 1)
-
 unfoldable pub rowStart : ℕ → ℕ → ℕ
 rowStart C q = q * (C + 1)
 

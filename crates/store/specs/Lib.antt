@@ -1,7 +1,10 @@
--- The definitions of `store`: elimination, the test of reduced form in one reading, the stages of a filing, the empty store, the calls, the span.
+-- The definitions of `store`. What a reader must believe: elimination, which filing is a contradiction, the calls with their causes, and what
+-- the rows of a store span.
 pub mod Elimination
-pub mod Reading
-pub mod Stages
 pub mod Filings
 pub mod Calls
 pub mod Span
+-- What only serves the code: the contracts of the functions below the calls. The stages of a filing, and the test of reduced form in one
+-- reading of the store.
+pub mod Stages
+pub mod Reading

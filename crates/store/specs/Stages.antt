@@ -17,7 +17,8 @@ use lib.ListN.{length}
 use Rattle.lists.specs.Places.{sum, tab}
 use Rattle.field.specs.Residues.{Modulus, Residues}
 use Rattle.field.specs.Rows.{plusTimes}
-use Rattle.store.specs.Elimination.{Reduced, storeSize, cells}
+use Rattle.plan.specs.Parts.{storeSize}
+use Rattle.store.specs.Elimination.{Reduced, cells}
 
 pub record Ready (p C : ℕ) (store : List ℕ) : Type 0 where
   pub modulus : Modulus p

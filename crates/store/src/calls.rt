@@ -1,19 +1,17 @@
 // The entry points: any numbers and bytes are taken. Each tests the causes it can meet in number order, and a refusal leaves what was lent
 // as it was.
 ghost use mathlib.Core.Path.{_≡_};
-ghost use mathlib.Core.Bool.{_&&_};
-ghost use Prim.Native.Nat.{_+_, _*_, _≤_};
-ghost use lib.Dec.{eqb};
 ghost use Rattle.plan.specs.Causes.{first, result};
 ghost use Rattle.plan.specs.Numbers.{plan, columns};
+ghost use Rattle.plan.specs.Parts.{given};
 ghost use Rattle.store.specs.Calls as specs;
 use crate::elimination::Filed;
 use crate::elimination::file_entry;
 use crate::elimination::read_off;
 use crate::reduced::is_reduced;
 use plan::Checked;
-use plan::Plan;
-use plan::part_refusal;
+use plan::Own;
+use plan::admit;
 
 // Tests a store: causes 1 2 3 4 5 6.
 pub fn test(
@@ -27,17 +25,12 @@ pub fn test(
     d: &[u8],
     store: &[u8],
 ) -> u8
-    ensures { λ r. ⌜ r ≡ first (specs.testCauses p s n m t (now (weights .entry)) (now (tables .entry)) (now (d .entry)) (now (store .entry))) ⌝ }
+    ensures { λ r. ⌜ r ≡ first (specs.testCauses (given p s n m t (now (weights .entry)) (now (tables .entry)) (now (d .entry))) (now (store .entry))) ⌝ }
 {
-    match Plan::new(p, s, n, m, t) {
+    match admit(p, s, n, m, t, weights, tables, d, Own::Store(store.len())) {
         Checked::Refused(k) => k,
         Checked::Accepted(plan) => {
-            let c = plan.columns();
-            let k = part_refusal(plan, weights, tables, d, store.len() == c * (c + 1));
-            if k != 0 {
-                return k;
-            }
-            if !is_reduced(store, c, plan.p) {
+            if !is_reduced(store, plan.columns(), plan.p) {
                 return 6;
             }
             0
@@ -59,18 +52,13 @@ pub fn file(
     entry: usize,
     value: usize,
 ) -> Filed
-    ensures { λ r. ⌜ specs.answerOf r ≡ specs.fileAnswer p s n m t (now (weights .entry)) (now (tables .entry)) (now (d .entry)) (now (store .entry)) entry value ⌝ }
-    ensures { λ r. ⌜ now (store .exit) ≡ specs.fileStore p s n m t (now (weights .entry)) (now (tables .entry)) (now (d .entry)) (now (store .entry)) entry value ⌝ }
+    ensures { λ r. ⌜ specs.answerOf r ≡ specs.fileAnswer (given p s n m t (now (weights .entry)) (now (tables .entry)) (now (d .entry))) (now (store .entry)) entry value ⌝ }
+    ensures { λ r. ⌜ now (store .exit) ≡ specs.fileStore (given p s n m t (now (weights .entry)) (now (tables .entry)) (now (d .entry))) (now (store .entry)) entry value ⌝ }
 {
-    match Plan::new(p, s, n, m, t) {
+    match admit(p, s, n, m, t, weights, tables, d, Own::Store(store.len())) {
         Checked::Refused(k) => Filed::Refused(k),
         Checked::Accepted(plan) => {
-            let c = plan.columns();
-            let k = part_refusal(plan, weights, tables, d, store.len() == c * (c + 1));
-            if k != 0 {
-                return Filed::Refused(k);
-            }
-            if !is_reduced(store, c, plan.p) {
+            if !is_reduced(store, plan.columns(), plan.p) {
                 return Filed::Refused(6);
             }
             if plan.entries() <= entry {
@@ -82,17 +70,6 @@ pub fn file(
             file_entry(plan, weights, tables, d, store, entry, value as u8)
         }
     }
-}
-
-// Whether a store and a slice for coefficients, by their lengths, are those of C columns.
-fn both_fit(store: usize, beta: usize, c: usize) -> bool
-    requires { ⌜ c ≤ 1024 ⌝ }
-    ensures { λ r. ⌜ r ≡ (eqb store (c * (c + 1)) && eqb beta c) ⌝ }
-{
-    if store != c * (c + 1) {
-        return false;
-    }
-    beta == c
 }
 
 // Reads the coefficients off a store into `beta`, of exactly C bytes: causes 1 2 3 4 5 6.
@@ -108,23 +85,23 @@ pub fn coefficients(
     store: &[u8],
     beta: &mut [u8],
 ) -> u8
-    ensures { λ r. ⌜ r ≡ first (specs.coefficientsCauses p s n m t (now (weights .entry)) (now (tables .entry)) (now (d .entry)) (now (store .entry)) (now (beta .entry))) ⌝ }
+    ensures { λ r. ⌜ r ≡ first (specs.coefficientsCauses (given p s n m t (now (weights .entry)) (now (tables .entry)) (now (d .entry))) (now (store .entry)) (now (beta .entry))) ⌝ }
     ensures { λ r. ⌜ now (beta .exit) ≡ result r (specs.coefficients (columns (plan p s n m t)) (now (store .entry))) (now (beta .entry)) ⌝ }
 {
-    match Plan::new(p, s, n, m, t) {
+    match admit(
+        p,
+        s,
+        n,
+        m,
+        t,
+        weights,
+        tables,
+        d,
+        Own::StoreAndRow(store.len(), beta.len()),
+    ) {
         Checked::Refused(k) => k,
         Checked::Accepted(plan) => {
             let c = plan.columns();
-            let k = part_refusal(
-                plan,
-                weights,
-                tables,
-                d,
-                both_fit(store.len(), beta.len(), c),
-            );
-            if k != 0 {
-                return k;
-            }
             if !is_reduced(store, c, plan.p) {
                 return 6;
             }

@@ -6,9 +6,9 @@ ghost use Rattle.lists.specs.Places.{tab, at};
 ghost use Rattle.field.specs.Residues.{Modulus, Residues};
 ghost use Rattle.field.specs.Rows.{plusMultiple, Headroom};
 ghost use Rattle.plan.specs.Numbers.{Within, columns};
-ghost use Rattle.plan.specs.Parts.{Lent};
+ghost use Rattle.plan.specs.Parts.{storeSize, lend, Lent};
 ghost use Rattle.store.specs.Elimination as specs;
-ghost use Rattle.store.specs.Elimination.{storeSize, rowStart, cells, flat};
+ghost use Rattle.store.specs.Elimination.{rowStart, cells, flat};
 ghost use Rattle.store.specs.Stages as stages;
 ghost use Rattle.store.specs.Stages.{Ready, Line, deferred, cleared};
 ghost use Rattle.store.specs.Calls as calls;
@@ -227,11 +227,11 @@ pub fn file_entry(
     value: u8,
 ) -> Filed
     requires { ⌜ Within plan ⌝ }
-    requires { ⌜ Lent plan (now weights) (now tables) (now d) ⌝ }
+    requires { ⌜ Lent (lend plan (now weights) (now tables) (now d)) ⌝ }
     requires { ⌜ Ready (plan .p) (columns plan) (now store) ⌝ }
     requires { ⌜ value < plan .p ⌝ }
-    ensures { λ r. ⌜ calls.answerOf r ≡ calls.answered (specs.outcome (plan .p) (columns plan) (cells (columns plan) (now (store .entry))) (calls.equation plan (now (weights .entry)) (now (tables .entry)) (now (d .entry)) entry value)) ⌝ }
-    ensures { λ r. ⌜ now (store .exit) ≡ calls.filed plan (now (weights .entry)) (now (tables .entry)) (now (d .entry)) (now (store .entry)) entry value ⌝ }
+    ensures { λ r. ⌜ calls.answerOf r ≡ calls.answered (calls.outcomeOf (lend plan (now (weights .entry)) (now (tables .entry)) (now (d .entry))) (now (store .entry)) entry value) ⌝ }
+    ensures { λ r. ⌜ now (store .exit) ≡ calls.filed (lend plan (now (weights .entry)) (now (tables .entry)) (now (d .entry))) (now (store .entry)) entry value ⌝ }
 {
     let mut row = [0u8; Plan::COLUMNS + 1];
     let c = plan.columns();

@@ -12,3 +12,4 @@ pub use calls::file;
 pub use calls::test;
 pub use elimination::Filed;
 pub use elimination::read_off;
+pub use plan::store_size;

@@ -4,7 +4,8 @@ ghost use Prim.Native.Nat.{_+_, _-_, _*_, _≤_, _<_};
 ghost use lib.ListN.{length, set};
 ghost use Rattle.lists.specs.Places.{tab, at};
 ghost use Rattle.field.specs.Residues.{Modulus};
-ghost use Rattle.store.specs.Elimination.{isReduced, storeSize, cells};
+ghost use Rattle.plan.specs.Parts.{storeSize};
+ghost use Rattle.store.specs.Elimination.{isReduced, cells};
 ghost use Rattle.store.specs.Reading.{rowFits, bound};
 use plan::Plan;
 
