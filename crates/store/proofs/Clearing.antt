@@ -3,24 +3,23 @@
 --     cleared-none, cleared-next, cleared-all       before the first row, a row more, and after the last
 --     cleared-start          after the last row, the next one is row k
 --     clears-at, cleared-residues     the row that is cleared next: where it stands, and that it has residues
---     pivot-length, pivot-line, pivot-at, pivot-before      the pivot: its places are the normal equation's
---     front-cut, front-residues     its part from column k on, as the code lends it
+--     pivot-line, pivot-at, pivot-before      the pivot: its places are the normal equation's
 --     row-inserted           with row k written, the store is `inserted`
 -- The rows below row k have 0 in column k, since they are zero left of their diagonal, so `inserted` leaves them as they are.
 -- Assumes nothing.
 use mathlib.Core.Path.{_≡_, refl, sym, ap, ap₂, subst⁻¹, _∙_}
 use mathlib.Core.Logic.{_≢_}
-use mathlib.Core.List.{List, _++_}
+use mathlib.Core.List.{List}
 use Prim.Native.Nat.{ℕ, _+_, _-_, _*_, _%_, _≤_, _<_}
 use native.Mathlib.Nat.{add-zero, one-mul, mul-zero, sub-zero, mod-eq-of-lt, mod-lt, le-of-lt}
 use native.Mathlib.Decide.{decLt, ℕ-discrete}
 use native.Mathlib.Omega.{arith}
-use lib.ListN.{length, take, drop, length-append, List·getD-append}
+use lib.ListN.{length, take, drop}
 use lib.Seq.{getD-take}
 use borrow.Author.Tests.{lt-ltb, le-ltb}
 use Rattle.lists.specs.Places.{at}
 use Rattle.lists.proofs.Tabs.{tab-length, tab-at}
-use Rattle.lists.proofs.Parts.{part-length, part-at, at-past}
+use Rattle.lists.proofs.Parts.{part-length, part-at}
 use Rattle.field.specs.Residues.{Residues, inverse}
 use Rattle.field.specs.Rows.{multiple, plusMultiple}
 use Rattle.field.proofs.Ranges.{residues-tab}
@@ -128,19 +127,16 @@ module _ {p C : ℕ} {S : ℕ → ℕ → ℕ} {N : ℕ → ℕ} {k r begin : �
       ])
 
 -- the pivot, as the residual's multiple leaves it
-module _ (p C : ℕ) (res : List ℕ) (g : ℕ) (pivot : List ℕ) (line : Line p C res) (pos : 0 < p) (h : pivot ≡ multiple p g res) where
+module _ {p C : ℕ} {res : List ℕ} (g : ℕ) {pivot : List ℕ} (line : Line p C res) (pos : 0 < p) (h : pivot ≡ multiple p g res) where
   pivot-place : (j : ℕ) → j ≤ C → at pivot j ≡ (g * at res j) % p
   pivot-place j l =
       ap (λ (xs : List ℕ). at xs j) h
       ∙ tab-at (length res) (λ i. (g * at res i) % p) 0 j (omega (arith, line .places))
 
-  pub pivot-length : length pivot ≡ C + 1
-  pivot-length = ap length h ∙ tab-length (length res) (λ i. (g * at res i) % p) ∙ line .places
-
   pub pivot-line : Line p C pivot
   pivot-line =
       record {
-        places = pivot-length;
+        places = ap length h ∙ tab-length (length res) (λ i. (g * at res i) % p) ∙ line .places;
         residues = λ i.
             subst⁻¹ (λ (xs : List ℕ). at xs i < p) h
             (residues-tab p (length res) (λ j. (g * at res j) % p) pos (λ j l. mod-lt (g * at res j) pos) i);
@@ -152,18 +148,6 @@ module _ (p C : ℕ) (res : List ℕ) (g : ℕ) (pivot : List ℕ) (line : Line 
 
   pub pivot-before : (k : ℕ) → k ≤ C → ((j : ℕ) → j < k → at res j ≡ 0) → (j : ℕ) → j < k → at pivot j ≡ 0
   pivot-before k b z j l = pivot-place j (omega arith) ∙ rw (z j l, mul-zero g) (mod-eq-of-lt pos)
-
--- the part from column k on of a line at the front of a longer list
-module _ (C k : ℕ) (pivot rest : List ℕ) (places : length pivot ≡ C + 1) (h : k ≤ C) where
-  pub front-cut : length (take (C + 1 - k) (drop k (pivot ++ rest))) ≡ C + 1 - k
-  front-cut = part-length (pivot ++ rest) k (C + 1 - k) (rw length-append (omega arith))
-
-  pub front-residues : (p : ℕ) → 0 < p → Residues p pivot → Residues p (take (C + 1 - k) (drop k (pivot ++ rest)))
-  front-residues p pos small i = elim (decLt i (C + 1 - k)) [
-    | yes b ↦
-        rw (part-at (pivot ++ rest) k (C + 1 - k) i b, List·getD-append pivot rest 0 (k + i) (omega arith)) (small (k + i))
-    | no b ↦ rw (at-past (take (C + 1 - k) (drop k (pivot ++ rest))) i (rw front-cut (omega arith))) pos
-  ]
 
 module _ (p C : ℕ) (S : ℕ → ℕ → ℕ) (N : ℕ → ℕ) (k : ℕ) (red : Reduced p C S) (column : k < C) (free : ZeroRow C S k)
     (small : (j : ℕ) → N j < p) (before : (j : ℕ) → j < k → N j ≡ 0) where

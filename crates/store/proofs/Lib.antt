@@ -1,4 +1,4 @@
--- The theory of elimination, which knows the definitions of specs/ and no code; then, from Pasting on, the laws of the code's loops; last, from
+-- The theory of elimination, which knows the definitions of specs/ and no code; then, from Fronts on, the laws of the code's loops; last, from
 -- StoreCalls on, what holds of the calls.
 pub mod Leads
 pub mod RowStarts
@@ -17,6 +17,7 @@ pub mod Uniqueness
 pub mod Spans
 pub mod FilingSpans
 pub mod Holding
+pub mod Fronts
 pub mod Pasting
 pub mod OneReading
 pub mod Multiples

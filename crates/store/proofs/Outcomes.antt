@@ -1,6 +1,7 @@
 -- What filing answers and leaves, from the residual that stands at the front of a longer list and the place of its first coefficient.
---     front-list, front-at, front-line, last-at    the residual at the list's front: the list, a place, that its places are residues, the last one
---     lead-of                the place found among the first C is the residual's lead
+--     Left                   the list is the residual of e
+--     left-length, left-at, left-line, last-at    its length, a place of it at the longer list's front, that it is a line, its right-hand side
+--     LeadAt, lead-of        k is the residual's lead; the place found among the first C is it
 --     lead-left              left of it the residual is zero
 --     free-row               its row is free
 --     new-answer, new-store             a new equation
@@ -9,11 +10,11 @@
 use mathlib.Core.Path.{_≡_, refl, sym, ap, subst⁻¹, _∙_}
 use mathlib.Core.Logic.{⊎-elim}
 use mathlib.Core.List.{List, _++_}
-use Prim.Native.Nat.{ℕ, _+_, _*_, _≤_, _<_}
+use Prim.Native.Nat.{ℕ, _+_, _≤_, _<_}
 use native.Mathlib.Nat.{le-of-lt}
 use native.Mathlib.Omega.{arith}
-use lib.ListN.{length, take, length-append, List·getD-append}
-use lib.Seq.{length-take-le, take-at, getD-take}
+use lib.ListN.{length, take, List·getD-append}
+use lib.Seq.{length-take-le, getD-take}
 use borrow.Author.Tests.{eq-eqb, ne-eqb, lt-ltb, le-ltb}
 use Rattle.lists.specs.Places.{tab, at}
 use Rattle.lists.proofs.Tabs.{tab-length, tab-at}
@@ -27,52 +28,58 @@ use Rattle.store.proofs.Leads.{lead-ext, lead-before, lead-nonzero}
 use Rattle.store.proofs.Bytes.{flat-cells, flat-ext}
 use Rattle.store.proofs.Residuals.{residual-small, residual-pivot}
 use Rattle.store.proofs.SamePlaces.{normal-ext, inserted-ext}
+use Rattle.store.proofs.Fronts.{front-list, front-length, front-room}
 
-module _ (p C : ℕ) (store : List ℕ) (e : ℕ → ℕ) (res rest : List ℕ) (h : res ≡ tab (C + 1) (residual p C (cells C store) e)) where
-  count : length res ≡ C + 1
-  count = ap length h ∙ tab-length (C + 1) (residual p C (cells C store) e)
+pub record Left (p C : ℕ) (store : List ℕ) (e : ℕ → ℕ) (res : List ℕ) : Type 0 where
+  pub list : res ≡ tab (C + 1) (residual p C (cells C store) e)
 
-  pub front-list : take (C + 1) (res ++ rest) ≡ res
-  front-list = take-at res rest (C + 1) count
+pub record LeadAt (p C : ℕ) (store : List ℕ) (e : ℕ → ℕ) (k : ℕ) : Type 0 where
+  pub lead-is : k ≡ lead (residual p C (cells C store) e) C
 
-  pub front-room : C + 1 ≤ length (res ++ rest)
-  front-room = rw length-append (omega (arith, count))
+module _ {p C : ℕ} {store : List ℕ} {e : ℕ → ℕ} {res : List ℕ} (h : Left p C store e res) where
+  pub left-length : length res ≡ C + 1
+  left-length = ap length (h .list) ∙ tab-length (C + 1) (residual p C (cells C store) e)
 
-  pub lead-room : C ≤ length (res ++ rest)
-  lead-room = omega (arith, front-room)
+  left-place : (j : ℕ) → j ≤ C → at res j ≡ residual p C (cells C store) e j
+  left-place j l = ap (λ (xs : List ℕ). at xs j) (h .list) ∙ tab-at (C + 1) (residual p C (cells C store) e) 0 j (omega arith)
 
-  pub front-length : length (take (C + 1) (res ++ rest)) ≡ C + 1
-  front-length = ap length front-list ∙ count
+  module _ (rest : List ℕ) where
+    pub left-at : (j : ℕ) → j ≤ C → at (take (C + 1) (res ++ rest)) j ≡ residual p C (cells C store) e j
+    left-at j l = ap (λ (xs : List ℕ). at xs j) (front-list C res rest left-length) ∙ left-place j l
 
-  pub lead-length : length (take C (res ++ rest)) ≡ C
-  lead-length = length-take-le C (res ++ rest) (omega (arith, front-room))
+    pub last-at : at (res ++ rest) C ≡ residual p C (cells C store) e C
+    last-at = List·getD-append res rest 0 C (omega (arith, left-length)) ∙ left-place C (omega arith)
 
-  pub last-at : at (res ++ rest) C ≡ residual p C (cells C store) e C
-  last-at =
-      List·getD-append res rest 0 C (omega (arith, count))
-      ∙ ap (λ (xs : List ℕ). at xs C) h
-      ∙ tab-at (C + 1) (residual p C (cells C store) e) 0 C (omega arith)
+    pub left-line : 0 < p → Line p C (take (C + 1) (res ++ rest))
+    left-line pos =
+        record {
+          places = front-length C res rest left-length;
+          residues = λ i.
+              subst⁻¹ (λ (xs : List ℕ). at xs i < p) (front-list C res rest left-length ∙ h .list)
+              (residues-tab p (C + 1) (residual p C (cells C store) e) pos (λ j l. residual-small p C (cells C store) e j pos) i);
+        }
 
-  pub front-at : (j : ℕ) → j ≤ C → at (take (C + 1) (res ++ rest)) j ≡ residual p C (cells C store) e j
-  front-at j l = ap (λ (xs : List ℕ). at xs j) (front-list ∙ h) ∙ tab-at (C + 1) (residual p C (cells C store) e) 0 j (omega arith)
+    -- the coefficients alone
+    pub lead-room : C ≤ length (res ++ rest)
+    lead-room = omega (arith, front-room C res rest left-length)
 
-  pub front-line : 0 < p → Line p C (take (C + 1) (res ++ rest))
-  front-line pos =
-      record {
-        places = front-length;
-        residues = λ i.
-            subst⁻¹ (λ (xs : List ℕ). at xs i < p) (front-list ∙ h)
-            (residues-tab p (C + 1) (residual p C (cells C store) e) pos (λ j l. residual-small p C (cells C store) e j pos) i);
-      }
+    pub lead-length : length (take C (res ++ rest)) ≡ C
+    lead-length = length-take-le C (res ++ rest) lead-room
 
-  pub lead-of : (k : ℕ) → k ≡ lead (at (take C (res ++ rest))) (length (take C (res ++ rest))) → k ≡ lead (residual p C (cells C store) e) C
-  lead-of k g =
-      g ∙ ap (lead (at (take C (res ++ rest)))) lead-length
-      ∙ lead-ext (at (take C (res ++ rest))) (residual p C (cells C store) e) C
-      (λ j l.
-      getD-take C (res ++ rest) j 0 l ∙ sym (getD-take (C + 1) (res ++ rest) j 0 (omega arith)) ∙ front-at j (le-of-lt l))
+    pub lead-of : (k : ℕ) → k ≡ lead (at (take C (res ++ rest))) (length (take C (res ++ rest))) → LeadAt p C store e k
+    lead-of k g =
+        record {
+          lead-is =
+              g ∙ ap (lead (at (take C (res ++ rest)))) lead-length
+              ∙ lead-ext (at (take C (res ++ rest))) (residual p C (cells C store) e) C
+              (λ j l.
+              getD-take C (res ++ rest) j 0 l ∙ sym (getD-take (C + 1) (res ++ rest) j 0 (omega arith)) ∙ left-at j (le-of-lt l));
+        }
 
-module _ (p C : ℕ) (store : List ℕ) (e : ℕ → ℕ) (k : ℕ) (g : k ≡ lead (residual p C (cells C store) e) C) where
+module _ {p C : ℕ} {store : List ℕ} {e : ℕ → ℕ} {k : ℕ} (found : LeadAt p C store e k) where
+  g : k ≡ lead (residual p C (cells C store) e) C
+  g = found .lead-is
+
   pub lead-left : (j : ℕ) → j < k → residual p C (cells C store) e j ≡ 0
   lead-left j l = lead-before (residual p C (cells C store) e) C j (omega (arith, g))
 

@@ -1,28 +1,57 @@
--- `store::calls::coefficients` meets its contract: each return is the first cause met (`Refusals` of plan), and only the last one has
+-- `store::calls::coefficients` meets its contract: what `admit` refuses, else cause 6 (`Admitting` of plan), and only the last return has
 -- written beta. Assumes nothing.
 use mathlib.Core.Path.{_≡_, refl, sym, ap, _∙_}
-use mathlib.Core.Bool.{Bool, _&&_}
-use Prim.Native.Nat.{ℕ, _+_, _*_}
-use native.Mathlib.Nat.{pos-of-ne-zero}
+use Prim.Native.Nat.{ℕ}
 use lib.Dec.{eqb}
 use lib.ListN.{length}
 use borrow.Author.Tests.{eqb-true, not-true, not-false}
 use borrow.Author.Needs.{needs}
 use Rattle.lists.proofs.Tests.{both-true}
-use Rattle.plan.specs.Causes.{first}
-use Rattle.plan.specs.Numbers.{columns, answerOf, checked}
-use Rattle.plan.specs.Parts.{partCauses}
-use Rattle.plan.specs.declared.numbers.Checked.the-variants.{Accepted, Refused}
+use Rattle.plan.specs.Numbers.{columns, answerOf}
+use Rattle.plan.specs.Parts.{Given, given, storeSize}
+use Rattle.plan.specs.declared.numbers.Plan.{Plan}
+use Rattle.plan.specs.declared.admission.Own.the-variants.{StoreAndRow}
 use Rattle.plan.proofs.Bounds.{modulus}
-use Rattle.plan.proofs.Refusals.{result-refused, lent-of, call-plan, call-within, call-numbers, call-parts, call-passed}
+use Rattle.plan.proofs.Refusals.{result-refused}
+use Rattle.plan.proofs.Admitting.{Admitted, admission, turned-away}
 use Rattle.store.specs.Elimination.{isReduced, cells}
-use Rattle.store.specs.Calls.{storeFits, coefficientsCauses, coefficients}
+use Rattle.store.specs.Calls.{coefficients}
 use Rattle.store.proofs.StoreCalls.{columns-small}
 use Rattle.store.proofs.calls.coefficients.Statement.{statement}
 use Rattle.store.proofs.calls.coefficients.Tie as tie
 
-new-requires : tie.Need-new-requires
-new-requires c κs = search needs
+abbrev start : tie.After-plan → tie.Start
+start c = c .before .before .before .before .before .before .before .before
+
+abbrev lent : tie.Start → Given
+lent c =
+    let a = c .args in
+    given (a .p) (a .s) (a .n) (a .m) (a .t) (a .weights .now) (a .tables .now) (a .d .now)
+
+-- the call is admitted with that plan
+admitted : (c : tie.After-plan) → Admitted (lent (start c)) (StoreAndRow (length (start c .args .store .now)) (length (start c .args .beta .now))) (c .plan .given .0 .0)
+admitted c = admission _ _ (sym (c .before .before .admit .ensures) ∙ ap answerOf (c .plan .given .1))
+
+-- the store and beta have the plan's lengths
+fit : (c : tie.After-plan) →
+    let Q = c .plan .given .0 .0 in
+    (length (start c .args .store .now) ≡ storeSize (columns Q)) × (length (start c .args .beta .now) ≡ columns Q)
+fit c =
+    let Q = c .plan .given .0 .0 in
+    let a = start c .args in
+    let b = both-true (eqb (length (a .store .now)) (storeSize (columns Q))) (eqb (length (a .beta .now)) (columns Q)) (admitted c .own-fits) in
+    (eqb-true _ _ (b .0), eqb-true _ _ (b .1))
+
+-- what the test of the store says
+sound : (c : tie.After-is-reduced) →
+    let Q = c .before .before .before .plan .given .0 .0 in
+    c .is-reduced .result ≡ isReduced (Q .p) (columns Q) (cells (columns Q) (start (c .before .before .before) .args .store .now))
+sound c =
+    let Q = c .before .before .before .plan .given .0 .0 in
+    c .is-reduced .ensures ∙ ap (λ (n : ℕ). isReduced (Q .p) n (cells n (start (c .before .before .before) .args .store .now))) (c .before .columns .ensures)
+
+admit-requires : tie.Need-admit-requires
+admit-requires c κs = search needs
 
 enum-known-k : tie.Need-enum-known-k
 enum-known-k c = search needs
@@ -30,114 +59,55 @@ enum-known-k c = search needs
 enum-known-plan : tie.Need-enum-known-plan
 enum-known-plan c = search needs
 
-refused : (c : tie.After-k) →
-    let args = c .before .before .before .before .before .before .before .before .args in
-    checked (args .p) (args .s) (args .n) (args .m) (args .t) ≡ answerOf (Refused (c .k .given .0 .0))
-refused c = sym (c .before .before .new .ensures) ∙ ap answerOf (c .k .given .1)
-
-accepted : (c : tie.After-plan) →
-    let args = c .before .before .before .before .before .before .before .before .args in
-    checked (args .p) (args .s) (args .n) (args .m) (args .t) ≡ answerOf (Accepted (c .plan .given .0 .0))
-accepted c = sym (c .before .before .new .ensures) ∙ ap answerOf (c .plan .given .1)
-
 columns-requires : tie.Need-columns-requires
-columns-requires c κs = call-within _ _ _ _ _ (accepted (c .before))
-
-both-fit-requires : tie.Need-both-fit-requires
-both-fit-requires c κs = columns-small _ (call-within _ _ _ _ _ (accepted (c .before .before))) (c .columns .ensures)
-
-part-refusal-requires : tie.Need-part-refusal-requires
-part-refusal-requires c κs =
-    let r = c .before .before .before in
-    call-within _ _ _ _ _ (accepted r)
-
--- the parts' refusal, with the call's own part against the plan's columns
-parts : (c : tie.After-part-refusal) →
-    let plan = c .before .before .before .before .plan in
-    let args = c .before .before .before .before .before .before .before .before .before .before .before .before .args in
-    c .part-refusal .result ≡ first (partCauses (plan .given .0 .0) (args .weights .now) (args .tables .now) (args .d .now) (storeFits (plan .given .0 .0) (args .store .now) && eqb (length (args .beta .now)) (columns (plan .given .0 .0))))
-parts c =
-    let plan = c .before .before .before .before .plan in
-    let args = c .before .before .before .before .before .before .before .before .before .before .before .before .args in
-    c .part-refusal .ensures ∙ ap (λ (b : Bool). first (partCauses (plan .given .0 .0) (args .weights .now) (args .tables .now) (args .d .now) b)) (c .before .both-fit .ensures ∙ ap (λ (n : ℕ). eqb (length (args .store .now)) (n * (n + 1)) && eqb (length (args .beta .now)) n) (c .before .before .columns .ensures))
-
-returns : tie.Need-returns
-unfolding coefficientsCauses
-returns c =
-    let r = c .before .before .before .before .before in
-    let pos = pos-of-ne-zero (c .if1 .taken) in
-    (call-parts _ _ _ _ _ _ _ _ _ _ _ (accepted r) _ (parts (c .before)) pos, sym (result-refused _ _ _ pos))
+columns-requires c κs = admitted (c .before) .within
 
 is-reduced-requires : tie.Need-is-reduced-requires
 is-reduced-requires c κs =
-    let r = c .before .before .before .before .before in
-    let within = call-within _ _ _ _ _ (accepted r) in
-    let fits = both-true _ _ (sym (c .before .before .both-fit .ensures) ∙ lent-of _ _ _ _ _ within (sym (c .before .part-refusal .ensures) ∙ c .if1 .left) .1) in
-    (columns-small _ within (c .before .before .before .columns .ensures), (modulus within, eqb-true _ _ (fits .0)))
+    let a = admitted (c .before .before) in
+    let e = c .columns .ensures in
+    (columns-small _ (a .within) e, (modulus (a .within), fit (c .before .before) .0 ∙ ap storeSize (sym e)))
 
-reduced : (c : tie.After-is-reduced) →
-    let plan = c .before .before .before .before .before .before .plan in
-    let args = c .before .before .before .before .before .before .before .before .before .before .before .before .before .before .args in
-    c .is-reduced .result ≡ isReduced (plan .given .0 .0 .p) (columns (plan .given .0 .0)) (cells (columns (plan .given .0 .0)) (args .store .now))
-reduced c =
-    let plan = c .before .before .before .before .before .before .plan in
-    let args = c .before .before .before .before .before .before .before .before .before .before .before .before .before .before .args in
-    c .is-reduced .ensures ∙ ap (λ (n : ℕ). isReduced (plan .given .0 .0 .p) n (cells n (args .store .now))) (c .before .before .before .before .columns .ensures)
-
-returns-2 : tie.Need-returns-2
-unfolding coefficientsCauses
-returns-2 c =
-    let r1 = c .before .before .before .before .before .before .before in
-    let r2 = c .before .before .before in
-    (sym (call-passed _ _ _ _ _ _ _ _ _ _ _ (accepted r1) (sym (c .before .before .if1 .left) ∙ parts r2) ∙ rw (sym (reduced (c .before)) ∙ not-true (c .before .is-reduced .result) (c .if2 .taken))), refl)
+returns : tie.Need-returns
+returns c =
+    let a = admitted (c .before .before .before .before) in
+    (sym (a .rest _ ∙ rw (sym (sound (c .before)) ∙ not-true (c .before .is-reduced .result) (c .if1 .taken))), refl)
 
 read-off-requires : tie.Need-read-off-requires
 read-off-requires c κs =
-    let both-fit = c .before .before .before .before .before .both-fit in
-    let part-refusal = c .before .before .before .before .part-refusal in
-    let if1 = c .before .before .before .if1 in
-    let r = c .before .before .before .before .before .before .before .before in
-    let within = call-within _ _ _ _ _ (accepted r) in
-    let fits = both-true _ _ (sym (both-fit .ensures) ∙ lent-of _ _ _ _ _ within (sym (part-refusal .ensures) ∙ if1 .left) .1) in
-    (columns-small _ within (c .before .before .before .before .before .before .columns .ensures), (eqb-true _ _ (fits .0), eqb-true _ _ (fits .1)))
+    let r = c .before .before .before .before .before in
+    let e = c .before .before .before .columns .ensures in
+    (columns-small _ (admitted r .within) e, (fit r .0 ∙ ap storeSize (sym e), fit r .1 ∙ sym e))
 
-returns-3 : tie.Need-returns-3
-unfolding coefficientsCauses
-returns-3 c =
-    let r = call-numbers _ _ _ _ _ _ _ _ _ _ _ (refused (c .before)) in
+returns-2 : tie.Need-returns-2
+returns-2 c =
+    let r = turned-away _ _ (sym (c .before .before .before .admit .ensures) ∙ ap answerOf (c .before .k .given .1)) _ in
     (r .0, sym (result-refused _ _ _ (r .1)))
 
 same-length : tie.Need-same-length
 same-length c = search needs
 
-returns-4 : tie.Need-returns-4
-unfolding coefficientsCauses
-returns-4 c =
-    let if1 = c .before .before .before .before .before .before .if1 in
-    let is-reduced = c .before .before .before .before .before .is-reduced in
-    let if2 = c .before .before .before .before .if2 in
-    let args = c .before .before .before .before .before .before .before .before .before .before .before .before .before .before .before .before .before .before .before .args in
-    let r1 = c .before .before .before .before .before .before .before .before .before .before .before in
-    let r2 = c .before .before .before .before .before .before .before in
-    let r3 = c .before .before .before .before .before in (
-      sym (call-passed _ _ _ _ _ _ _ _ _ _ _ (accepted r1) (sym (if1 .left) ∙ parts r2) ∙ rw (sym (reduced r3) ∙ not-false (is-reduced .result) (if2 .left))),
-      c .before .before .read-off .ensures ∙ ap (λ (n : ℕ). coefficients n (args .store .now)) (c .before .before .before .before .before .before .before .before .before .columns .ensures ∙ ap columns (sym (call-plan _ _ _ _ _ (accepted r1)))),
+returns-3 : tie.Need-returns-3
+returns-3 c =
+    let tested = c .before .before .before .before .before in
+    let r = tested .before .before .before in
+    let a = admitted r in (
+      sym (a .rest _ ∙ rw (sym (sound tested) ∙ not-false (tested .is-reduced .result) (c .before .before .before .before .if1 .left))),
+      c .before .before .read-off .ensures
+          ∙ ap (λ (n : ℕ). coefficients n (start r .args .store .now)) (tested .before .columns .ensures ∙ sym (ap columns (a .same))),
     )
 
 pub coefficients-spec : {M : Type 1} → statement M
 coefficients-spec =
     tie.close
     (tie.spec
-    new-requires
+    admit-requires
     enum-known-k
     enum-known-plan
     columns-requires
-    both-fit-requires
-    part-refusal-requires
-    returns
     is-reduced-requires
-    returns-2
+    returns
     read-off-requires
-    returns-3
+    returns-2
     same-length
-    returns-4)
+    returns-3)

@@ -1,12 +1,12 @@
 -- `store::elimination::insert_row` meets its contract: the pivot is the local array's front, the residual made normal; it clears its column
 -- from the rows above, and is written as row k (`Clearing`). Assumes nothing.
-use mathlib.Core.Path.{_≡_, refl, sym, ap, subst⁻¹, _∙_}
-use mathlib.Core.List.{List, _++_}
-use Prim.Native.Nat.{ℕ, _+_, _*_, _≤_, _<_}
-use native.Mathlib.Nat.{le-of-lt, mod-lt, mul-le-mul-right}
+use mathlib.Core.Path.{_≡_, sym, ap, subst⁻¹, _∙_}
+use mathlib.Core.List.{List}
+use Prim.Native.Nat.{ℕ, _+_, _≤_, _<_}
+use native.Mathlib.Nat.{le-of-lt, mod-lt}
 use native.Mathlib.Omega.{arith}
-use lib.ListN.{length, take, length-append}
-use lib.Seq.{length-take-le, take-at}
+use lib.ListN.{length}
+use lib.Seq.{length-take-le}
 use borrow.Author.Needs.{needs}
 use Rattle.lists.specs.Places.{at}
 use Rattle.field.specs.Residues.{inverse}
@@ -14,10 +14,34 @@ use Rattle.store.specs.Elimination.{normal}
 use Rattle.store.specs.Stages.{Line}
 use Rattle.store.proofs.Bytes.{flat-length}
 use Rattle.store.proofs.Residuals.{normal-small, normal-zero}
-use Rattle.store.proofs.Pasting.{tail-end, tail-length}
-use Rattle.store.proofs.Clearing.{pivot-length, pivot-line, pivot-at, pivot-before, front-cut, front-residues, row-inserted}
+use Rattle.store.proofs.Fronts.{front-list, front-length, front-room, front-cut, front-residues}
+use Rattle.store.proofs.Pasting.{RowAt, row-fits, tail-length}
+use Rattle.store.proofs.Clearing.{pivot-line, pivot-at, pivot-before, row-inserted}
 use Rattle.store.proofs.elimination.insert_row.Statement.{statement}
 use Rattle.store.proofs.elimination.insert_row.Tie as tie
+
+abbrev start : tie.After-set-multiple → tie.Start
+start c = c .before .before .before .before .before .before
+
+positive : (c : tie.Start) → 0 < c .args .p
+positive c = omega (arith, c .pre .0 .modulus .0)
+
+-- the inverse is a factor as `set_multiple` asks
+factor : (c : tie.After-inverse) → c .inverse .result ≤ c .before .before .before .before .args .p
+unfolding inverse
+factor c = rw (c .inverse .ensures) (le-of-lt (mod-lt _ (positive (c .before .before .before .before))))
+
+-- the pivot, at the array's front
+line : (c : tie.After-set-multiple) → Line (start c .args .p) (start c .args .c) (c .set-multiple .last .0)
+line c = pivot-line _ (start c .pre .1 .0) (positive (start c)) (c .set-multiple .ensures)
+
+-- row k, where the rows above it end
+row : (c : tie.After-clear-above) →
+    let args = start (c .before .before .before .before) .args in
+    RowAt (args .c) (c .clear-above .last .0) (args .k) (c .clear-above .result)
+row c =
+    let s = start (c .before .before .before .before) in
+    record { size = ap length (c .clear-above .ensures .1) ∙ flat-length _ _; inside = s .pre .1 .1 .0; begins = c .clear-above .ensures .0 }
 
 add-width : tie.Need-add-width
 add-width c = search needs
@@ -27,9 +51,8 @@ shared-slice-read-inverse c = search needs
 
 inverse-requires : tie.Need-inverse-requires
 inverse-requires c κs =
-    let pre = c .before .before .before .pre in
-    let args = c .before .before .before .args in
-    (pre .0 .modulus, pre .1 .0 .residues (args .k))
+    let s = c .before .before .before in
+    (s .pre .0 .modulus, s .pre .1 .0 .residues (s .args .k))
 
 array-borrow-prefix-pivot : tie.Need-array-borrow-prefix-pivot
 array-borrow-prefix-pivot c = search needs
@@ -39,104 +62,36 @@ slice-aggregate-set-multiple c =
     let args = c .before .before .before .before .before .args in
     sym (length-take-le (args .c + 1) _ (omega arith))
 
-factor : (c : tie.After-inverse) →
-    let args = c .before .before .before .before .args in
-    c .inverse .result ≤ args .p
-unfolding inverse
-factor c =
-    let args = c .before .before .before .before .args in
-    let pre = c .before .before .before .before .pre in
-    let p = args .p in
-    let pos : 0 < p = omega (arith, pre .0 .modulus .0) in
-    rw (c .inverse .ensures) (le-of-lt (mod-lt _ pos))
-
 set-multiple-requires : tie.Need-set-multiple-requires
 set-multiple-requires c κs =
-    let pre = c .before .before .before .before .before .pre in
-    let args = c .before .before .before .before .before .args in
-    (pre .0 .modulus, (pre .1 .0 .places ∙ sym (length-take-le (args .c + 1) _ (omega arith)), (pre .1 .0 .residues, factor (c .before))))
-
--- the pivot, at the array's front
-positive : (c : tie.After-set-multiple) →
-    let args = c .before .before .before .before .before .before .args in
-    0 < args .p
-positive c =
-    let pre = c .before .before .before .before .before .before .pre in
-    omega (arith, pre .0 .modulus .0)
-
-count : (c : tie.After-set-multiple) →
-    let args = c .before .before .before .before .before .before .args in
-    length (c .set-multiple .last .0) ≡ args .c + 1
-count c =
-    let pre = c .before .before .before .before .before .before .pre in
-    pivot-length _ _ _ _ _ (pre .1 .0) (positive c) (c .set-multiple .ensures)
-
-line : (c : tie.After-set-multiple) →
-    let args = c .before .before .before .before .before .before .args in
-    Line (args .p) (args .c) (c .set-multiple .last .0)
-line c =
-    let pre = c .before .before .before .before .before .before .pre in
-    pivot-line _ _ _ _ _ (pre .1 .0) (positive c) (c .set-multiple .ensures)
-
-before : (c : tie.After-set-multiple) (j : ℕ) → j < c .before .before .before .before .before .before .args .k → at (c .set-multiple .last .0) j ≡ 0
-before c =
-    let pre = c .before .before .before .before .before .before .pre in
-    pivot-before _ _ _ _ _ (pre .1 .0) (positive c) (c .set-multiple .ensures) _ (le-of-lt (pre .1 .1 .0)) (pre .1 .1 .1 .0)
-
-front : (c : tie.After-set-multiple) (rest : List ℕ) → take (c .before .before .before .before .before .before .args .c + 1) (c .set-multiple .last .0 ++ rest) ≡ c .set-multiple .last .0
-front c rest = take-at (c .set-multiple .last .0) rest (c .before .before .before .before .before .before .args .c + 1) (count c)
-
-places : (c : tie.After-set-multiple) (j : ℕ) → j ≤ c .before .before .before .before .before .before .args .c → at (c .set-multiple .last .0) j ≡ normal (c .before .before .before .before .before .before .args .p) (at (c .before .before .before .before .before .before .args .res .now)) (c .before .before .before .before .before .before .args .k) j
-places c =
-    let pre = c .before .before .before .before .before .before .pre in
-    pivot-at _ _ _ _ _ (pre .1 .0) (positive c) (c .set-multiple .ensures) _ (c .before .before .inverse .ensures)
-
-long : (c : tie.After-set-multiple) (rest : List ℕ) → c .before .before .before .before .before .before .args .c + 1 ≤ length (c .set-multiple .last .0 ++ rest)
-long c rest = simp length-append (omega (arith, count c))
+    let s = c .before .before .before .before .before in
+    let line = s .pre .1 .0 in
+    (s .pre .0 .modulus, (line .places ∙ sym (length-take-le (s .args .c + 1) _ (omega arith)), (line .residues, factor (c .before))))
 
 array-share-prefix-pivot : tie.Need-array-share-prefix-pivot
-array-share-prefix-pivot c = simp length-append (omega (arith, count (c .before .before)))
+array-share-prefix-pivot c =
+    let r = c .before .before in
+    front-room _ (r .set-multiple .last .0) _ (line r .places)
 
 slice-aggregate-clear-above : tie.Need-slice-aggregate-clear-above
 slice-aggregate-clear-above c =
     let r = c .before .before .before in
-    sym (ap length (front r _) ∙ count r)
+    sym (front-length _ (r .set-multiple .last .0) _ (line r .places))
 
 clear-above-requires : tie.Need-clear-above-requires
 clear-above-requires c κs =
     let r = c .before .before .before in
-    let s = c .before .before .before .before .before .before .before .before .before in
-    let e = front r _ in (
-      s .pre .0,
-      (
-        subst⁻¹ (Line (s .args .p) (s .args .c)) e (line r),
-        (s .pre .1 .1 .0, λ j l. ap (λ (xs : List ℕ). at xs j) e ∙ before r j l),
-      ),
-    )
-
-mul-a : tie.Need-mul-a
-mul-a c =
-    let args = c .before .before .before .before .before .before .before .before .before .before .before .before .args in
-    let pre = c .before .before .before .before .before .before .before .before .before .before .before .before .pre in
-    omega (arith, mul-le-mul-right (args .c + 1) (le-of-lt (pre .1 .1 .0)))
+    let s = start r in
+    let column = s .pre .1 .1 .0 in
+    let e = front-list _ (r .set-multiple .last .0) _ (line r .places) in
+    let before = pivot-before _ (s .pre .1 .0) (positive s) (r .set-multiple .ensures) _ (le-of-lt column) (s .pre .1 .1 .1 .0) in
+    (s .pre .0, (subst⁻¹ (Line (s .args .p) (s .args .c)) e (line r), (column, λ j l. ap (λ (xs : List ℕ). at xs j) e ∙ before j l)))
 
 add-a : tie.Need-add-a
-add-a c =
-    let args = c .before .before .before .before .before .before .before .before .before .before .before .before .args in
-    let pre = c .before .before .before .before .before .before .before .before .before .before .before .before .pre in
-    omega (arith, mul-le-mul-right (args .c + 1) (pre .1 .1 .0), pre .0 .places)
-
-mul-end : tie.Need-mul-end
-mul-end c =
-    let args = c .before .before .before .before .before .before .before .before .before .before .before .before .args in
-    let pre = c .before .before .before .before .before .before .before .before .before .before .before .before .pre in
-    omega (arith, mul-le-mul-right (args .c + 1) (pre .1 .1 .0), pre .0 .places)
+add-a c = omega (arith, row-fits (row (c .before .before)))
 
 add-end : tie.Need-add-end
-add-end c =
-    let args = c .before .before .before .before .before .before .before .before .before .before .before .before .args in
-    let pre = c .before .before .before .before .before .before .before .before .before .before .before .before .pre in
-    omega (arith, mul-le-mul-right (args .c + 1) (pre .1 .1 .0), pre .0 .places)
+add-end c = omega (arith, row-fits (row (c .before .before)))
 
 sub-set-multiple : tie.Need-sub-set-multiple
 sub-set-multiple c = search needs
@@ -145,10 +100,7 @@ part-set-multiple-start : tie.Need-part-set-multiple-start
 part-set-multiple-start c = search needs
 
 part-set-multiple-end : tie.Need-part-set-multiple-end
-part-set-multiple-end c =
-    let args = c .before .before .before .before .before .before .before .before .before .before .before .before .args in
-    let pre = c .before .before .before .before .before .before .before .before .before .before .before .before .pre in
-    tail-end (args .c) (c .before .before .clear-above .last .0) (args .k) (args .k) (args .k * (args .c + 1)) (ap length (c .before .before .clear-above .ensures) ∙ flat-length _ _) (pre .1 .1 .0) (le-of-lt (pre .1 .1 .0)) refl
+part-set-multiple-end c = row-fits (row (c .before .before))
 
 sub-set-multiple-2 : tie.Need-sub-set-multiple-2
 sub-set-multiple-2 c = search needs
@@ -159,34 +111,33 @@ part-set-multiple-start-2 c = search needs
 part-set-multiple-end-2 : tie.Need-part-set-multiple-end-2
 part-set-multiple-end-2 c =
     let r = c .before .before .before .before .before .before .before .before in
-    long r _
+    front-room _ (r .set-multiple .last .0) _ (line r .places)
 
 set-multiple-requires-2 : tie.Need-set-multiple-requires-2
 set-multiple-requires-2 c κs =
-    let clear-above = c .before .before .before .before .before .clear-above in
-    let set-multiple = c .before .before .before .before .before .before .before .before .before .set-multiple in
-    let r = c .before .before .before .before .before .before .before .before .before in
-    let s = c .before .before .before .before .before .before .before .before .before .before .before .before .before .before .before in
-    let k = s .args .k in
-    let l = s .pre .1 .1 .0 in
-    let pos : 0 < s .args .p = omega (arith, s .pre .0 .modulus .0) in
-    let tail = tail-length (s .args .c) (clear-above .last .0) k k (k * (s .args .c + 1)) (ap length (clear-above .ensures) ∙ flat-length _ _) l (le-of-lt l) refl in
-    (s .pre .0 .modulus, (front-cut _ _ (set-multiple .last .0) _ (count r) (le-of-lt l) ∙ sym tail, (front-residues _ _ (set-multiple .last .0) _ (count r) (le-of-lt l) _ pos (line r .residues), pos)))
+    let cleared = c .before .before .before .before .before in
+    let r = cleared .before .before .before .before in
+    let s = start r in
+    let column = le-of-lt (s .pre .1 .1 .0) in
+    (s .pre .0 .modulus, (front-cut (line r) _ column ∙ sym (tail-length (row cleared) column), (front-residues (line r) _ column (positive s), positive s)))
 
 same-length : tie.Need-same-length
 same-length c = search needs
 
 returns : tie.Need-returns
 returns c =
-    let clear-above = c .before .before .before .before .before .before .before .before .clear-above in
-    let r = c .before .before .before .before .before .before .before .before .before .before .before .before in
-    let s = c .before .before .before .before .before .before .before .before .before .before .before .before .before .before .before .before .before .before in
+    let cleared = c .before .before .before .before .before .before .before .before in
+    let r = cleared .before .before .before .before in
+    let s = start r in
     let k = s .args .k in
-    let l = s .pre .1 .1 .0 in
-    let pos : 0 < s .args .p = omega (arith, s .pre .0 .modulus .0) in
-    row-inserted _ _ _ (normal (s .args .p) (at (s .args .res .now)) k) k (s .pre .0 .reduced) l (s .pre .1 .1 .1 .1)
-    (λ j. normal-small (s .args .p) (at (s .args .res .now)) k j pos) (λ j b. normal-zero (s .args .p) (at (s .args .res .now)) k j pos (s .pre .1 .1 .1 .0 j b))
-    _ _ _ (long r _) (λ j b. ap (λ (xs : List ℕ). at xs j) (front r _) ∙ places r j b) (clear-above .ensures) (c .before .before .set-multiple2 .ensures)
+    let pre = s .pre .1 .1 in
+    let normal-places = pivot-at _ (s .pre .1 .0) (positive s) (r .set-multiple .ensures) k (r .before .before .inverse .ensures) in
+    row-inserted _ _ _ (normal (s .args .p) (at (s .args .res .now)) k) k (s .pre .0 .reduced) (pre .0) (pre .1 .1)
+    (λ j. normal-small (s .args .p) (at (s .args .res .now)) k j (positive s))
+    (λ j b. normal-zero (s .args .p) (at (s .args .res .now)) k j (positive s) (pre .1 .0 j b))
+    _ _ _ _ (cleared .clear-above .ensures .0) (front-room _ (r .set-multiple .last .0) _ (line r .places))
+    (λ j b. ap (λ (xs : List ℕ). at xs j) (front-list _ (r .set-multiple .last .0) _ (line r .places)) ∙ normal-places j b)
+    (cleared .clear-above .ensures .1) (c .before .before .set-multiple2 .ensures)
 
 pub insert-row-spec : {M : Type 1} → statement M
 insert-row-spec =
@@ -201,9 +152,7 @@ insert-row-spec =
     array-share-prefix-pivot
     slice-aggregate-clear-above
     clear-above-requires
-    mul-a
     add-a
-    mul-end
     add-end
     sub-set-multiple
     part-set-multiple-start
