@@ -1,9 +1,11 @@
 -- `plan::calls::row` meets its contract: what `admit` refuses, else cause 7 (`Admitting`), and only the last return has written the row.
 -- Assumes nothing.
 use mathlib.Core.Path.{refl, sym, ap, _∙_}
+use Prim.Native.Nat.{_≤_, _<_}
+use native.Mathlib.Omega.{arith}
 use borrow.Author.Tests.{le-ltb, lt-ltb, eqb-true}
 use lib.ListN.{length}
-use Rattle.plan.specs.Numbers.{answerOf}
+use Rattle.plan.specs.Numbers.{entries, answerOf}
 use Rattle.plan.specs.Parts.{given, lend}
 use Rattle.plan.specs.Rows.{row}
 use Rattle.plan.specs.declared.numbers.Plan.{Plan}
@@ -37,8 +39,9 @@ entries-requires c κs = admitted (c .before) .within
 
 returns : tie.Need-returns
 returns c =
-    let a = admitted (c .before .before .before) in
-    let far = rw (c .before .entries .ensures) at (c .if1 .taken) in
+    let r = c .before .before .before in
+    let a = admitted r in
+    let far : entries (r .plan .given .0 .0) ≤ start r .args .entry = omega (arith, c .before .entries .ensures, c .if1 .taken) in
     (sym (a .rest _ ∙ rw (le-ltb _ _ far)), refl)
 
 fill-row-requires : tie.Need-fill-row-requires
@@ -59,7 +62,8 @@ returns-3 c =
     let r = c .before .before .before .before .before .before .before in
     let a = admitted r in
     let args = start r .args in
-    let near = rw (c .before .before .before .before .before .entries .ensures) at (c .before .before .before .before .if1 .left) in (
+    let test = c .before .before .before .before in
+    let near : args .entry < entries (r .plan .given .0 .0) = omega (arith, test .before .entries .ensures, test .if1 .left) in (
       sym (a .rest _ ∙ rw (lt-ltb _ _ near)),
       c .before .before .fill-row .ensures ∙ ap (λ (P : Plan). row (lend P (args .weights .now) (args .tables .now) (args .d .now)) (args .entry)) (sym (a .same)),
     )
