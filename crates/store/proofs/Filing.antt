@@ -95,11 +95,10 @@ module _ (p C : ℕ) (prime : oddPrime p ≡ true) (store : List ℕ) (e : ℕ �
 
   pub stored-solves : outcome p C (cells C store) e ≢ contradiction → (β : ℕ → ℕ)
       → Solves p C (cells C (flat C (after p C (cells C store) e))) β ↔ (Solves p C (cells C store) β × Satisfies p C e β)
-  stored-solves kept β = Iff·trans
-      (
-        solves-ext p C (cells C (flat C T)) T stored-reads β β (λ j l. refl),
-        solves-ext p C T (cells C (flat C T)) (λ q j l k. sym (stored-reads q j l k)) β β (λ j l. refl),
-      )
+  stored-solves kept β = Iff·trans (
+    solves-ext p C (cells C (flat C T)) T stored-reads β β (λ j l. refl),
+    solves-ext p C T (cells C (flat C T)) (λ q j l k. sym (stored-reads q j l k)) β β (λ j l. refl),
+  )
       (after-solves p C prime (cells C store) e red eqn kept β)
     where
       T : ℕ → ℕ → ℕ

@@ -7,11 +7,11 @@
 --     row-begin, row-within, row-length, passed-length       a row's part of the store, and the bounds' length after it
 -- A row with a 1 on the diagonal has nothing below it in that column, since the rows below are zero left of their diagonal.
 -- Assumes nothing.
-use mathlib.Core.Path.{_≡_, refl, sym, ap, ap₂, _∙_}
+use mathlib.Core.Path.{_≡_, sym, ap, ap₂, _∙_}
 use mathlib.Core.Bool.{true, false, false≢true, not-eq-not}
 use mathlib.Core.Logic.{_⊎_, inl, inr, ⊎-elim, ⊎-map, _≢_}
 use mathlib.Core.List.{List}
-use Prim.Native.Nat.{ℕ, _+_, _-_, _*_, _≤_, _<_}
+use Prim.Native.Nat.{ℕ, _+_, _-_, _≤_, _<_}
 use native.Mathlib.Nat.{le-of-lt}
 use native.Mathlib.Decide.{decLt, ℕ-discrete}
 use native.Mathlib.Omega.{arith}
@@ -21,8 +21,8 @@ use lib.Seq.{getD-set-same, getD-set-other}
 use borrow.Author.Tests.{eq-eqb, ne-eqb, le-leb, leb-true, lt-ltb, ltb-true}
 use Rattle.lists.specs.Places.{every, tab, at}
 use Rattle.lists.proofs.Tests.{every-at, every-of}
-use Rattle.lists.proofs.Tabs.{tab-length, tab-at}
-use Rattle.lists.proofs.Parts.{part-length, part-at, at-past}
+use Rattle.lists.proofs.Tabs.{tab-length}
+use Rattle.lists.proofs.Parts.{part-length, part-at, at-past, all-zero}
 use Rattle.plan.specs.Parts.{storeSize}
 use Rattle.store.specs.Elimination.{ZeroRow, Pivot, Reduced, isReduced, rowStart, cells}
 use Rattle.store.specs.Reading.{bound, rowFits}
@@ -95,6 +95,8 @@ abbrev pub rowTo : ℕ → List ℕ → ℕ → List ℕ
 rowTo C store end = take (end - (end - (C + 1))) (drop (end - (C + 1)) store)
 
 pub record Passed (p C : ℕ) (store : List ℕ) (q begin : ℕ) (bounds : List ℕ) : Type 0 where
+  pub low : 2 ≤ p
+  pub size : length store ≡ storeSize C
   pub within : q ≤ C
   pub begins : begin ≡ rowStart C q
   pub places : length bounds ≡ C + 1
@@ -102,31 +104,34 @@ pub record Passed (p C : ℕ) (store : List ℕ) (q begin : ℕ) (bounds : List 
   pub from : (j : ℕ) → q ≤ j → j ≤ C → at bounds j ≡ bound p (cells C store j j)
   pub rows : (r : ℕ) → q ≤ r → r < C → Good p C (cells C store) r
 
-module _ (p C : ℕ) (store : List ℕ) (low : 2 ≤ p) (fits : length store ≡ storeSize C) where
-  last : cells C store C C ≡ 0
-  last = at-past store (rowStart C C + C) (omega (arith, start-last C))
+last : (C : ℕ) (store : List ℕ) → length store ≡ storeSize C → cells C store C C ≡ 0
+last C store fits = at-past store (rowStart C C + C) (omega (arith, start-last C))
 
-  pub passed-none : (bounds : List ℕ) → bounds ≡ tab (C + 1) (λ _. 0) → Passed p C store C (length store) (set bounds C (p - 1))
-  passed-none bounds z =
-      record {
-        within = omega arith;
-        begins = fits ∙ sym (start-last C);
-        places = length-set bounds C (p - 1) ∙ count;
-        before = λ j l.
-            getD-set-other bounds C j (p - 1) 0 (λ e. omega arith) ∙ ap (λ (xs : List ℕ). at xs j) z ∙ tab-at (C + 1) (λ _. 0) 0 j (omega arith);
-        from = λ j k l.
-            let e : j ≡ C = omega arith in
-            ap (at (set bounds C (p - 1))) e ∙ getD-set-same bounds C (p - 1) 0 (omega (arith, count)) ∙ sym (bound-free p (cells C store j j) (ap (λ (n : ℕ). cells C store n n) e ∙ last));
-        rows = λ r k l. absurd (omega arith);
-      }
-    where
-      count : length bounds ≡ C + 1
-      count = ap length z ∙ tab-length (C + 1) (λ _. 0)
+pub passed-none : {p C : ℕ} {store : List ℕ} → 2 ≤ p → length store ≡ storeSize C → (bounds : List ℕ) → bounds ≡ tab (C + 1) (λ _. 0)
+    → Passed p C store C (length store) (set bounds C (p - 1))
+passed-none {p} {C} {store} low fits bounds z =
+    record {
+      low = low;
+      size = fits;
+      within = omega arith;
+      begins = fits ∙ sym (start-last C);
+      places = length-set bounds C (p - 1) ∙ count;
+      before = λ j l. getD-set-other bounds C j (p - 1) 0 (λ e. omega arith) ∙ all-zero (C + 1) bounds z j;
+      from = λ j k l.
+          let e : j ≡ C = omega arith in
+          ap (at (set bounds C (p - 1))) e ∙ getD-set-same bounds C (p - 1) 0 (omega (arith, count))
+          ∙ sym (bound-free p (cells C store j j) (ap (λ (n : ℕ). cells C store n n) e ∙ last C store fits));
+      rows = λ r k l. absurd (omega arith);
+    }
+  where
+    count : length bounds ≡ C + 1
+    count = ap length z ∙ tab-length (C + 1) (λ _. 0)
 
-  pub passed-all : {q begin : ℕ} {bounds : List ℕ} → Passed p C store q begin bounds → q ≤ 0 → true ≡ isReduced p C (cells C store)
-  passed-all w h = sym (isReduced-means p C (cells C store) .1 (reduced-of p C (cells C store) low (λ r l. w .rows r (omega arith) l)))
+module _ {p C : ℕ} {store : List ℕ} {q begin : ℕ} {bounds : List ℕ} (w : Passed p C store q begin bounds) where
+  pub passed-all : q ≤ 0 → true ≡ isReduced p C (cells C store)
+  passed-all h = sym (isReduced-means p C (cells C store) .1 (reduced-of p C (cells C store) (w .low) (λ r l. w .rows r (omega arith) l)))
 
-  module _ {q begin : ℕ} {bounds : List ℕ} (w : Passed p C store q begin bounds) (some : 0 < q) where
+  module _ (some : 0 < q) where
     ends : begin ≡ rowStart C (q - 1) + (C + 1)
     ends = let k : q ≡ q - 1 + 1 = omega arith in w .begins ∙ ap (rowStart C) k ∙ start-next C (q - 1)
 
@@ -134,7 +139,7 @@ module _ (p C : ℕ) (store : List ℕ) (low : 2 ≤ p) (fits : length store ≡
     row-begin = omega (arith, ends)
 
     pub row-within : begin ≤ length store
-    row-within = omega (arith, ends, row-end C (q - 1) (omega (arith, w .within)))
+    row-within = omega (arith, ends, w .size, row-end C (q - 1) (omega (arith, w .within)))
 
     one-less : begin - (C + 1) ≡ rowStart C (q - 1)
     one-less = omega (arith, ends)
@@ -211,6 +216,8 @@ module _ (p C : ℕ) (store : List ℕ) (low : 2 ≤ p) (fits : length store ≡
         → bounds′ ≡ set bounds (q - 1) (bound p (at row (q - 1))) → Passed p C store (q - 1) (begin - (C + 1)) bounds′
     passed-next h bounds′ e =
         record {
+          low = w .low;
+          size = w .size;
           within = omega (arith, w .within);
           begins = one-less;
           places = passed-length bounds′ (bound p (at row (q - 1))) e;
@@ -232,4 +239,4 @@ module _ (p C : ℕ) (store : List ℕ) (low : 2 ≤ p) (fits : length store ≡
     pub passed-not : rowFits (q - 1) bounds row ≡ false → false ≡ isReduced p C (cells C store)
     passed-not h =
         sym (not-eq-not {a = isReduced p C (cells C store)} {b = false} .0 (λ t.
-        false≢true (sym h ∙ fits-good (good-of p C (cells C store) low last (isReduced-means p C (cells C store) .0 t) (q - 1) (omega (arith, w .within))))))
+        false≢true (sym h ∙ fits-good (good-of p C (cells C store) (w .low) (last C store (w .size)) (isReduced-means p C (cells C store) .0 t) (q - 1) (omega (arith, w .within))))))

@@ -1,6 +1,6 @@
 // The test of reduced form, in one reading of the store, row by row from the last to the first.
 ghost use mathlib.Core.Path.{_≡_};
-ghost use Prim.Native.Nat.{_+_, _-_, _*_, _≤_, _<_};
+ghost use Prim.Native.Nat.{_+_, _-_, _≤_, _<_};
 ghost use lib.ListN.{length, set};
 ghost use Rattle.lists.specs.Places.{tab, at};
 ghost use Rattle.field.specs.Residues.{Modulus};

@@ -9,7 +9,6 @@ use borrow.Author.Needs.{needs}
 use Rattle.lists.proofs.Tests.{both-true}
 use Rattle.plan.specs.Numbers.{columns, answerOf}
 use Rattle.plan.specs.Parts.{Given, given, storeSize}
-use Rattle.plan.specs.declared.numbers.Plan.{Plan}
 use Rattle.plan.specs.declared.admission.Own.the-variants.{StoreAndRow}
 use Rattle.plan.proofs.Bounds.{modulus}
 use Rattle.plan.proofs.Refusals.{result-refused}

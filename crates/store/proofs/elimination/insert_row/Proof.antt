@@ -1,6 +1,6 @@
 -- `store::elimination::insert_row` meets its contract: the pivot is the local array's front, the residual made normal; it clears its column
 -- from the rows above, and is written as row k (`Clearing`). Assumes nothing.
-use mathlib.Core.Path.{_≡_, sym, ap, subst⁻¹, _∙_}
+use mathlib.Core.Path.{sym, ap, subst⁻¹, _∙_}
 use mathlib.Core.List.{List}
 use Prim.Native.Nat.{ℕ, _+_, _≤_, _<_}
 use native.Mathlib.Nat.{le-of-lt, mod-lt}

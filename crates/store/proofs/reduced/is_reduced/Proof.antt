@@ -1,5 +1,5 @@
 -- `store::reduced::is_reduced` meets its contract: the local array begins as zeros. Assumes nothing.
-use mathlib.Core.Path.{refl, sym}
+use mathlib.Core.Path.{sym}
 use Prim.Native.Nat.{_+_}
 use native.Mathlib.Omega.{arith}
 use lib.Seq.{length-take-le}
@@ -18,7 +18,9 @@ slice-aggregate-pass-rows : tie.Need-slice-aggregate-pass-rows
 slice-aggregate-pass-rows c = sym (length-take-le (c .before .before .args .c + 1) _ (omega arith))
 
 pass-rows-requires : tie.Need-pass-rows-requires
-pass-rows-requires c κs = (c .before .before .pre .0, (c .before .before .pre .1 .0, (c .before .before .pre .1 .1, zeros-front 1025 (c .before .before .args .c + 1) (omega arith))))
+pass-rows-requires c κs =
+    let s = c .before .before in
+    (s .pre .0, (s .pre .1 .0, (s .pre .1 .1, zeros-front 1025 (s .args .c + 1) (omega arith))))
 
 returns : tie.Need-returns
 returns c = search needs
