@@ -167,7 +167,9 @@ pub extern "C" fn celery_write(
 {
     let k = program::write_into(p, s, n, m, t, weights, tables, d, beta, steps);
     if k == 0 {
-        *written = 4 * program::step_count(n, m, t);
+        let p = p as u8;
+        let s = s as u8;
+        *written = 4 * program::step_count(plan::Plan { p, s, n, m, t });
     }
     k
 }

@@ -14,16 +14,13 @@ use native.Mathlib.Omega.{arith}
 use lib.Dec.{eqb, ltb, leb}
 use lib.ListN.{length}
 use borrow.Author.Tests.{leb-true, ltb-true, eqb-true}
-use Rattle.lists.specs.Places.{tab, every, joined, at}
+use Rattle.lists.specs.Places.{every, joined, at}
 use Rattle.lists.proofs.Tests.{both-true, every-at}
-use Rattle.lists.proofs.Tabs.{tab-length}
 use Rattle.lists.proofs.Parts.{at-past}
 use Rattle.field.specs.Residues.{Residues}
-use Rattle.field.proofs.Ranges.{residues-tab}
 use Rattle.plan.specs.declared.numbers.Plan.{Plan}
-use Rattle.plan.specs.Numbers.{variables, Within}
-use Rattle.plan.specs.Parts.{linkStart, Lent}
-use Rattle.plan.proofs.Bounds.{prime-low, prime-high}
+use Rattle.plan.specs.Numbers.{Within}
+use Rattle.plan.proofs.Bounds.{prime-high}
 use Rattle.program.specs.Steps.{kindOf, toOf, fromOf, byOf, lastRegister, goodStep, wellFormed}
 use Rattle.program.specs.Layout.{layout, stepCount}
 use Rattle.program.proofs.Shape.{one-less, layout-length, layout-wellFormed}
@@ -92,29 +89,10 @@ module _ (P : Plan) (within : Within P) where
       place (suc (suc (suc zero))) e l = there (4 * (i / 4) + 3) (step l .by-small) (omega arith)
       place (suc (suc (suc (suc r)))) e l = absurd (omega arith)
 
--- the tables do not matter to the written program: zeros serve
-pub small-steps : (P : Plan) (w d β steps : List ℕ) → Within P → length w ≡ linkStart P (P .m) → Residues (P .p) w → length d ≡ P .t * variables P → Residues (P .p) d → Residues (P .p) β
-    → steps ≡ layout P w d β → (i : ℕ) → at steps i < 1000
-small-steps P w d β steps within hw rw′ hd rd rβ e i =
+pub small-steps : (P : Plan) (w d β steps : List ℕ) → Within P → Residues (P .p) w → Residues (P .p) d → Residues (P .p) β → steps ≡ layout P w d β → (i : ℕ) → at steps i < 1000
+small-steps P w d β steps within rw′ rd rβ e i =
     subst (λ (xs : List ℕ). at xs i < 1000) (sym e)
-    (small-all P within (layout P w d β) (rw (layout-length P w d β) (omega arith)) (layout-wellFormed P w zeros d β within lent rβ) i)
-  where
-    zeros : List ℕ
-    zeros = tab (P .m * P .p) (λ _. 0)
-
-    positive : 0 < P .p
-    positive = omega (arith, prime-low within)
-
-    lent : Lent P w zeros d
-    lent =
-        record {
-          weights-length = hw;
-          tables-length = tab-length (P .m * P .p) (λ _. 0);
-          products-length = hd;
-          weights-residues = rw′;
-          tables-residues = residues-tab (P .p) (P .m * P .p) (λ _. 0) positive (λ j l. positive);
-          products-residues = rd;
-        }
+    (small-all P within (layout P w d β) (rw (layout-length P w d β) (omega arith)) (layout-wellFormed P w d β within rw′ rd rβ) i)
 
 pub step-count : (P : Plan) (w d β steps : List ℕ) → steps ≡ layout P w d β → length steps / 4 ≡ stepCount P
 step-count P w d β steps e = rw (e, layout-length P w d β) (omega arith)

@@ -29,10 +29,10 @@ use Rattle.plan.specs.Equation.{equation1}
 use Rattle.plan.specs.declared.numbers.Plan.{Plan}
 use Rattle.plan.proofs.Bounds.{prime-low}
 use Rattle.plan.proofs.Chains.{chain-length, values-length}
-use Rattle.program.specs.Steps.{tableAt, Registers, put, output}
+use Rattle.program.specs.Steps.{tableAt, Registers, assigned, output}
 use Rattle.program.specs.Layout.{clear, adds, linkSteps, productSteps, layout}
 use Rattle.program.proofs.Pieces.{Goes, goes-then, goes-to, goes-joined, goes-registers}
-use Rattle.program.proofs.Effects.{put-same, put-other, put-put, goes-clear, goes-add, goes-boot, goes-adds, goes-sum, goes-pair}
+use Rattle.program.proofs.Effects.{assigned-same, assigned-other, assigned-twice, goes-clear, goes-add, goes-boot, goes-adds, goes-sum, goes-pair}
 
 pub digits-length : (P : Plan) (i : ℕ) → length (tab (P .n) (digit P i)) ≡ P .n
 digits-length P i = tab-length (P .n) (digit P i)
@@ -51,12 +51,12 @@ unfolding tableAt
 table-minus P T k z h = rw (le-ltb k (P .m) (omega arith), ne-eqb k (P .m) (λ e. omega arith))
 
 -- a register behind a list of registers
-put-behind : (xs : List ℕ) (r v : ℕ) → r ≡ length xs → put (at xs) r v ≡ at (xs ++ (v ∷ []))
-put-behind xs r v e = fun-ext (λ k. elim (ℕ-discrete k r) [
+assigned-behind : (xs : List ℕ) (r v : ℕ) → r ≡ length xs → assigned (at xs) r v ≡ at (xs ++ (v ∷ []))
+assigned-behind xs r v e = fun-ext (λ k. elim (ℕ-discrete k r) [
   | yes same ↦
-      ap (put (at xs) r v) same ∙ put-same (at xs) r v
+      ap (assigned (at xs) r v) same ∙ assigned-same (at xs) r v
       ∙ sym (ap (at (xs ++ (v ∷ []))) (same ∙ e) ∙ getD-append-seam xs v [] 0)
-  | no other ↦ put-other (at xs) r v k other ∙ elim (decLt k (length xs)) [
+  | no other ↦ assigned-other (at xs) r v k other ∙ elim (decLt k (length xs)) [
     | yes l ↦ sym (List·getD-append xs (v ∷ []) 0 k l)
     | no l ↦
         at-past xs k (omega arith)
@@ -80,10 +80,10 @@ module _ (P : Plan) (w T d β : List ℕ) (within : Within P) where
   goes-link xs k h e =
       goes-to P T
       (goes-then P T (goes-sum P T (at xs) (P .n + k) (λ j. at w (linkStart P k + j)) (P .n + k) (le-refl (P .n + k)) positive)
-      (goes-boot P T (put (at xs) (P .n + k) total) (P .n + k) k))
-      (put-put (at xs) (P .n + k) total _
-      ∙ ap (put (at xs) (P .n + k)) (ap (tableAt P T k) (put-same (at xs) (P .n + k) total) ∙ table-link P T k total h)
-      ∙ put-behind xs (P .n + k) (at T (k * P .p + total)) (sym e))
+      (goes-boot P T (assigned (at xs) (P .n + k) total) (P .n + k) k))
+      (assigned-twice (at xs) (P .n + k) total _
+      ∙ ap (assigned (at xs) (P .n + k)) (ap (tableAt P T k) (assigned-same (at xs) (P .n + k) total) ∙ table-link P T k total h)
+      ∙ assigned-behind xs (P .n + k) (at T (k * P .p + total)) (sym e))
     where
       total : ℕ
       total = sum (λ j. at w (linkStart P k + j) * at xs j) (P .n + k) % P .p
@@ -136,41 +136,41 @@ module _ (P : Plan) (w T d β : List ℕ) (within : Within P) where
     )
       where
         g1 : Registers
-        g1 = put f l (sum (λ j. at β (k * l + j) * f j) l % P .p)
+        g1 = assigned f l (sum (λ j. at β (k * l + j) * f j) l % P .p)
 
         g2 : Registers
-        g2 = put g1 (l + 1) (sum (λ j. at d (k * l + j) * g1 j) l % P .p)
+        g2 = assigned g1 (l + 1) (sum (λ j. at d (k * l + j) * g1 j) l % P .p)
 
         g3 : Registers
-        g3 = put g2 (l + 2) ((g2 l + 1 * g2 (l + 1)) % P .p)
+        g3 = assigned g2 (l + 2) ((g2 l + 1 * g2 (l + 1)) % P .p)
 
         g4 : Registers
-        g4 = put g3 (l + 3) ((g3 l + (P .p - 1) * g3 (l + 1)) % P .p)
+        g4 = assigned g3 (l + 3) ((g3 l + (P .p - 1) * g3 (l + 1)) % P .p)
 
         g5 : Registers
-        g5 = put g4 (l + 2) (tableAt P T (P .m) (g4 (l + 2)))
+        g5 = assigned g4 (l + 2) (tableAt P T (P .m) (g4 (l + 2)))
 
         g6 : Registers
-        g6 = put g5 (l + 3) (tableAt P T (P .m + 1) (g5 (l + 3)))
+        g6 = assigned g5 (l + 3) (tableAt P T (P .m + 1) (g5 (l + 3)))
 
         g7 : Registers
-        g7 = put g6 (l + 4) ((g6 (l + 4) + 1 * g6 (l + 2)) % P .p)
+        g7 = assigned g6 (l + 4) ((g6 (l + 4) + 1 * g6 (l + 2)) % P .p)
 
         g8 : Registers
-        g8 = put g7 (l + 4) ((g7 (l + 4) + 1 * g7 (l + 3)) % P .p)
+        g8 = assigned g7 (l + 4) ((g7 (l + 4) + 1 * g7 (l + 3)) % P .p)
 
         kept1 : (j : ℕ) → j < l → g1 j ≡ f j
-        kept1 j h = put-other f l _ j (λ e. omega arith)
+        kept1 j h = assigned-other f l _ j (λ e. omega arith)
 
         kept8 : (j : ℕ) → j < l → g8 j ≡ f j
         kept8 j h =
-            put-other g7 (l + 4) _ j (λ e. omega arith)
-            ∙ put-other g6 (l + 4) _ j (λ e. omega arith)
-            ∙ put-other g5 (l + 3) _ j (λ e. omega arith)
-            ∙ put-other g4 (l + 2) _ j (λ e. omega arith)
-            ∙ put-other g3 (l + 3) _ j (λ e. omega arith)
-            ∙ put-other g2 (l + 2) _ j (λ e. omega arith)
-            ∙ put-other g1 (l + 1) _ j (λ e. omega arith)
+            assigned-other g7 (l + 4) _ j (λ e. omega arith)
+            ∙ assigned-other g6 (l + 4) _ j (λ e. omega arith)
+            ∙ assigned-other g5 (l + 3) _ j (λ e. omega arith)
+            ∙ assigned-other g4 (l + 2) _ j (λ e. omega arith)
+            ∙ assigned-other g3 (l + 3) _ j (λ e. omega arith)
+            ∙ assigned-other g2 (l + 2) _ j (λ e. omega arith)
+            ∙ assigned-other g1 (l + 1) _ j (λ e. omega arith)
             ∙ kept1 j h
 
         u : ℕ
@@ -181,49 +181,49 @@ module _ (P : Plan) (w T d β : List ℕ) (within : Within P) where
 
         at-u : g2 l ≡ u
         at-u =
-            put-other g1 (l + 1) _ l (λ e. omega arith) ∙ put-same f l _
+            assigned-other g1 (l + 1) _ l (λ e. omega arith) ∙ assigned-same f l _
             ∙ ap (λ (z : ℕ). z % P .p) (weighted f β k (state .held))
 
         at-v : g2 (l + 1) ≡ v
-        at-v = put-same g1 (l + 1) _ ∙ ap (λ (z : ℕ). z % P .p) (weighted g1 d k (λ j h. kept1 j h ∙ state .held j h))
+        at-v = assigned-same g1 (l + 1) _ ∙ ap (λ (z : ℕ). z % P .p) (weighted g1 d k (λ j h. kept1 j h ∙ state .held j h))
 
         at-a : g4 (l + 2) ≡ (u + v) % P .p
         at-a =
-            put-other g3 (l + 3) _ (l + 2) (λ e. omega arith) ∙ put-same g2 (l + 2) _
+            assigned-other g3 (l + 3) _ (l + 2) (λ e. omega arith) ∙ assigned-same g2 (l + 2) _
             ∙ ap₂ (λ (x z : ℕ). (x + z) % P .p) at-u (one-mul (g2 (l + 1)) ∙ at-v)
 
         at-b : g5 (l + 3) ≡ (u + (P .p - 1) * v) % P .p
         at-b =
-            put-other g4 (l + 2) _ (l + 3) (λ e. omega arith) ∙ put-same g3 (l + 3) _
+            assigned-other g4 (l + 2) _ (l + 3) (λ e. omega arith) ∙ assigned-same g3 (l + 3) _
             ∙ ap₂ (λ (x z : ℕ). (x + (P .p - 1) * z) % P .p)
-            (put-other g2 (l + 2) _ l (λ e. omega arith) ∙ at-u)
-            (put-other g2 (l + 2) _ (l + 1) (λ e. omega arith) ∙ at-v)
+            (assigned-other g2 (l + 2) _ l (λ e. omega arith) ∙ at-u)
+            (assigned-other g2 (l + 2) _ (l + 1) (λ e. omega arith) ∙ at-v)
 
         squared : g6 (l + 2) ≡ square (P .p) ((u + v) % P .p)
         squared =
-            put-other g5 (l + 3) _ (l + 2) (λ e. omega arith) ∙ put-same g4 (l + 2) _
+            assigned-other g5 (l + 3) _ (l + 2) (λ e. omega arith) ∙ assigned-same g4 (l + 2) _
             ∙ table-square P T (P .m) (g4 (l + 2)) refl ∙ ap (square (P .p)) at-a
 
         minus : g7 (l + 3) ≡ minusSquare (P .p) ((u + (P .p - 1) * v) % P .p)
         minus =
-            put-other g6 (l + 4) _ (l + 3) (λ e. omega arith) ∙ put-same g5 (l + 3) _
+            assigned-other g6 (l + 4) _ (l + 3) (λ e. omega arith) ∙ assigned-same g5 (l + 3) _
             ∙ table-minus P T (P .m + 1) (g5 (l + 3)) (omega arith) ∙ ap (minusSquare (P .p)) at-b
 
         before : g6 (l + 4) ≡ sum (λ i. left i * right i) k % P .p
         before =
-            put-other g5 (l + 3) _ (l + 4) (λ e. omega arith)
-            ∙ put-other g4 (l + 2) _ (l + 4) (λ e. omega arith)
-            ∙ put-other g3 (l + 3) _ (l + 4) (λ e. omega arith)
-            ∙ put-other g2 (l + 2) _ (l + 4) (λ e. omega arith)
-            ∙ put-other g1 (l + 1) _ (l + 4) (λ e. omega arith)
-            ∙ put-other f l _ (l + 4) (λ e. omega arith)
+            assigned-other g5 (l + 3) _ (l + 4) (λ e. omega arith)
+            ∙ assigned-other g4 (l + 2) _ (l + 4) (λ e. omega arith)
+            ∙ assigned-other g3 (l + 3) _ (l + 4) (λ e. omega arith)
+            ∙ assigned-other g2 (l + 2) _ (l + 4) (λ e. omega arith)
+            ∙ assigned-other g1 (l + 1) _ (l + 4) (λ e. omega arith)
+            ∙ assigned-other f l _ (l + 4) (λ e. omega arith)
             ∙ state .total
 
         at-y : g8 (l + 4) ≡ sum (λ i. left i * right i) (suc k) % P .p
         at-y =
-            put-same g7 (l + 4) _
+            assigned-same g7 (l + 4) _
             ∙ ap₂ (λ (x z : ℕ). (x + z) % P .p)
-            (put-same g6 (l + 4) _ ∙ ap₂ (λ (x z : ℕ). (x + z) % P .p) before (one-mul (g6 (l + 2)) ∙ squared))
+            (assigned-same g6 (l + 4) _ ∙ ap₂ (λ (x z : ℕ). (x + z) % P .p) before (one-mul (g6 (l + 2)) ∙ squared))
             (one-mul (g7 (l + 3)) ∙ minus)
             ∙ added (P .p) (sum (λ i. left i * right i) k) (left k) (right k) (square (P .p) ((u + v) % P .p)) (minusSquare (P .p) ((u + (P .p - 1) * v) % P .p))
             (product (P .p) u v (within .prime))
@@ -237,17 +237,17 @@ module _ (P : Plan) (w T d β : List ℕ) (within : Within P) where
         × (h (variables P + 4) ≡ equation1 P d β xs % P .p)
     unfolding equation1 left right
     goes-rest =
-        let start : Registers = put (at xs) (variables P + 4) 0 in
+        let start : Registers = assigned (at xs) (variables P + 4) 0 in
         let first : State 0 start = record {
-          held = λ j h. put-other (at xs) (variables P + 4) 0 j (λ e. omega arith);
-          total = put-same (at xs) (variables P + 4) 0 ∙ sym (ap (λ (z : ℕ). z % P .p) (sum-zero (λ i. left i * right i)) ∙ mod-eq-of-lt positive);
+          held = λ j h. assigned-other (at xs) (variables P + 4) 0 j (λ e. omega arith);
+          total = assigned-same (at xs) (variables P + 4) 0 ∙ sym (ap (λ (z : ℕ). z % P .p) (sum-zero (λ i. left i * right i)) ∙ mod-eq-of-lt positive);
         } in
         let r = goes-products start first in
         let small : r .0 (variables P + 4) < P .p = rw (r .2 .total) (mod-lt _ positive) in (
-          put (r .0) (variables P + 4) ((r .0 (variables P + 4) + sum (λ j. at β (P .t * variables P + j) * r .0 j) (variables P)) % P .p),
+          assigned (r .0) (variables P + 4) ((r .0 (variables P + 4) + sum (λ j. at β (P .t * variables P + j) * r .0 j) (variables P)) % P .p),
           goes-then P T (goes-clear P T (at xs) (variables P + 4))
               (goes-then P T (r .1) (goes-adds P T (r .0) (variables P + 4) (λ j. at β (P .t * variables P + j)) (variables P) (omega arith) small)),
-          put-same (r .0) (variables P + 4) _
+          assigned-same (r .0) (variables P + 4) _
               ∙ ap₂ (λ (x z : ℕ). (x + z) % P .p) (r .2 .total) (weighted (r .0) β (P .t) (r .2 .held))
               ∙ mod-add-mod _ (P .p) _,
         )

@@ -27,8 +27,8 @@ use Rattle.lists.proofs.Parts.{at-past, zeros-at}
 use Rattle.field.specs.Residues.{Residues, inverse, square, minusSquare}
 use Rattle.field.proofs.Modular.{pow-cong}
 use Rattle.plan.specs.declared.numbers.Plan.{Plan}
-use Rattle.program.specs.Steps.{lastRegister, tableAt, kindOf, toOf, fromOf, byOf, goodStep, wellFormed, put, after, registers, bootstraps, output}
-use Rattle.program.proofs.Effects.{put-same, put-other}
+use Rattle.program.specs.Steps.{lastRegister, tableAt, kindOf, toOf, fromOf, byOf, goodStep, wellFormed, assigned, stepped, registers, bootstraps, output}
+use Rattle.program.proofs.Effects.{assigned-same, assigned-other}
 
 -- cause 11
 module _ (P : Plan) (steps : List ℕ) where
@@ -123,10 +123,10 @@ minus-other p z r pos e other =
     ap (λ (n : ℕ). p - n) e ∙ sym (mod-eq-of-lt k)
 
 -- one register set
-set-put : (regs : List ℕ) (to v : ℕ) → to < length regs → at (set regs to v) ≡ put (at regs) to v
-set-put regs to v h = fun-ext (λ k. elim (ℕ-discrete k to) [
-  | yes e ↦ ap (at (set regs to v)) e ∙ getD-set-same regs to v 0 h ∙ sym (ap (put (at regs) to v) e ∙ put-same (at regs) to v)
-  | no e ↦ getD-set-other regs to k v 0 e ∙ sym (put-other (at regs) to v k e)
+set-assigned : (regs : List ℕ) (to v : ℕ) → to < length regs → at (set regs to v) ≡ assigned (at regs) to v
+set-assigned regs to v h = fun-ext (λ k. elim (ℕ-discrete k to) [
+  | yes e ↦ ap (at (set regs to v)) e ∙ getD-set-same regs to v 0 h ∙ sym (ap (assigned (at regs) to v) e ∙ assigned-same (at regs) to v)
+  | no e ↦ getD-set-other regs to k v 0 e ∙ sym (assigned-other (at regs) to v k e)
 ])
 
 set-residues : (p : ℕ) (regs : List ℕ) (to v : ℕ) → to < length regs → v < p → Residues p regs → Residues p (set regs to v)
@@ -179,7 +179,7 @@ module _ (P : Plan) (T steps digits : List ℕ) where
       record { within = omega arith; size = size; same = same; residues = λ k. subst (λ (f : ℕ → ℕ). f k < P .p) (sym same) (residues k); counted = sym (sum-zero _) }
 
   turn : {regs : List ℕ} {k count : ℕ} (v next : ℕ) → Running k regs count → k < length steps / 4 → toOf steps k < 69 → v < P .p
-      → after P T (at regs) (kindOf steps k) (toOf steps k) (fromOf steps k) (byOf steps k) ≡ put (at regs) (toOf steps k) v
+      → stepped P T (at regs) (kindOf steps k) (toOf steps k) (fromOf steps k) (byOf steps k) ≡ assigned (at regs) (toOf steps k) v
       → next ≡ count + cond (eqb (kindOf steps k) 2) 1 0
       → Running (k + 1) (set regs (toOf steps k) v) next
   unfolding registers
@@ -189,8 +189,8 @@ module _ (P : Plan) (T steps digits : List ℕ) where
         within = omega arith;
         size = length-set regs (toOf steps k) v ∙ r .size;
         same =
-            set-put regs (toOf steps k) v fits ∙ sym step
-            ∙ ap (λ f. after P T f (kindOf steps k) (toOf steps k) (fromOf steps k) (byOf steps k)) (r .same)
+            set-assigned regs (toOf steps k) v fits ∙ sym step
+            ∙ ap (λ f. stepped P T f (kindOf steps k) (toOf steps k) (fromOf steps k) (byOf steps k)) (r .same)
             ∙ ap (registers P T steps digits) (sym (add-one k));
         residues = set-residues (P .p) regs (toOf steps k) v fits small (r .residues);
         counted = more ∙ ap (λ (n : ℕ). n + cond (eqb (kindOf steps k) 2) 1 0) (r .counted) ∙ sym (sum-next (λ i. cond (eqb (kindOf steps i) 2) 1 0) k);
@@ -198,19 +198,19 @@ module _ (P : Plan) (T steps digits : List ℕ) where
 
   module _ {regs : List ℕ} {k count : ℕ} (r : Running k regs count) (h : k < length steps / 4) (inside : toOf steps k < 69) where
     pub running-clear : (out : List ℕ) → out ≡ set regs (toOf steps k) 0 → 0 < P .p → kindOf steps k ≡ 0 → Running (k + 1) out count
-    unfolding after
+    unfolding stepped
     running-clear out done pos e =
         subst (λ (l : List ℕ). Running (k + 1) l count) (sym done) (turn 0 count r h inside pos (rw e) (rw e (omega arith)))
 
     pub running-add : (out : List ℕ) → out ≡ set regs (toOf steps k) ((at regs (toOf steps k) + byOf steps k * at regs (fromOf steps k)) % P .p)
         → 0 < P .p → kindOf steps k ≡ 1 → Running (k + 1) out count
-    unfolding after
+    unfolding stepped
     running-add out done pos e =
         subst (λ (l : List ℕ). Running (k + 1) l count) (sym done) (turn _ count r h inside (mod-lt _ pos) (rw e) (rw e (omega arith)))
 
     pub running-boot : (out : List ℕ) → out ≡ set regs (toOf steps k) (tableAt P T (byOf steps k) (at regs (fromOf steps k)))
         → tableAt P T (byOf steps k) (at regs (fromOf steps k)) < P .p → kindOf steps k ≡ 2 → Running (k + 1) out (count + 1)
-    unfolding after
+    unfolding stepped
     running-boot out done small e =
         subst (λ (l : List ℕ). Running (k + 1) l (count + 1)) (sym done) (turn _ (count + 1) r h inside small (rw e) (rw e))
 

@@ -21,7 +21,7 @@ use Rattle.lists.proofs.Sums.{sum-append, sum-ext}
 use Rattle.lists.proofs.Tests.{every-of, both}
 use borrow.Author.Tests.{eq-eqb}
 use Rattle.plan.specs.declared.numbers.Plan.{Plan}
-use Rattle.program.specs.Steps.{kindOf, toOf, fromOf, byOf, goodStep, wellFormed, Registers, after, registers, bootstraps}
+use Rattle.program.specs.Steps.{kindOf, toOf, fromOf, byOf, goodStep, wellFormed, Registers, stepped, registers, bootstraps}
 
 abbrev pub Whole : List ℕ → Type 0
 Whole xs = length xs % 4 ≡ 0
@@ -140,7 +140,7 @@ boots-joined F c (suc n) h =
 module _ (P : Plan) (T : List ℕ) where
   unfoldable pub runs : Registers → List ℕ → ℕ → Registers
   runs f xs zero = f
-  runs f xs (suc k) = after P T (runs f xs k) (kindOf xs k) (toOf xs k) (fromOf xs k) (byOf xs k)
+  runs f xs (suc k) = stepped P T (runs f xs k) (kindOf xs k) (toOf xs k) (fromOf xs k) (byOf xs k)
 
   pub registers-runs : (xs digits : List ℕ) (k : ℕ) → registers P T xs digits k ≡ runs (at digits) xs k
   unfolding registers runs
@@ -150,14 +150,14 @@ module _ (P : Plan) (T : List ℕ) where
   abbrev pub ends : Registers → List ℕ → Registers
   ends f xs = runs f xs (length xs / 4)
 
-  after-same : (f g : Registers) (xs ys : List ℕ) (i j : ℕ) → f ≡ g → Same xs i ys j → after P T f (kindOf xs i) (toOf xs i) (fromOf xs i) (byOf xs i) ≡ after P T g (kindOf ys j) (toOf ys j) (fromOf ys j) (byOf ys j)
-  after-same f g xs ys i j e s = rw (e, s .kind, s .to, s .from, s .by)
+  stepped-same : (f g : Registers) (xs ys : List ℕ) (i j : ℕ) → f ≡ g → Same xs i ys j → stepped P T f (kindOf xs i) (toOf xs i) (fromOf xs i) (byOf xs i) ≡ stepped P T g (kindOf ys j) (toOf ys j) (fromOf ys j) (byOf ys j)
+  stepped-same f g xs ys i j e s = rw (e, s .kind, s .to, s .from, s .by)
 
   runs-front : (f : Registers) (xs ys : List ℕ) (k : ℕ) → k ≤ length xs / 4 → runs f (xs ++ ys) k ≡ runs f xs k
   unfolding runs
   runs-front f xs ys zero h = refl
   runs-front f xs ys (suc k) h =
-      after-same (runs f (xs ++ ys) k) (runs f xs k) (xs ++ ys) xs k k (runs-front f xs ys k (omega arith)) (same-front xs ys k h)
+      stepped-same (runs f (xs ++ ys) k) (runs f xs k) (xs ++ ys) xs k k (runs-front f xs ys k (omega arith)) (same-front xs ys k h)
 
   runs-back : (f : Registers) (xs ys : List ℕ) (k : ℕ) → Whole xs → runs f (xs ++ ys) (length xs / 4 + k) ≡ runs (ends f xs) ys k
   unfolding runs
@@ -167,7 +167,7 @@ module _ (P : Plan) (T : List ℕ) where
   runs-back f xs ys (suc k) whole =
       let e : length xs / 4 + suc k ≡ suc (length xs / 4 + k) = omega arith in
       rw e
-      (after-same (runs f (xs ++ ys) (length xs / 4 + k)) (runs (ends f xs) ys k) (xs ++ ys) ys (length xs / 4 + k) k
+      (stepped-same (runs f (xs ++ ys) (length xs / 4 + k)) (runs (ends f xs) ys k) (xs ++ ys) ys (length xs / 4 + k) k
       (runs-back f xs ys k whole) (same-back xs ys k whole))
 
   pub record Goes (xs : List ℕ) (f g : Registers) : Type 0 where
@@ -192,7 +192,7 @@ module _ (P : Plan) (T : List ℕ) where
   unfolding runs
   goes-none f = record { whole = refl; end = refl }
 
-  pub goes-step : (f : Registers) (kind to from by : ℕ) → Goes (kind ∷ to ∷ from ∷ by ∷ []) f (after P T f kind to from by)
+  pub goes-step : (f : Registers) (kind to from by : ℕ) → Goes (kind ∷ to ∷ from ∷ by ∷ []) f (stepped P T f kind to from by)
   unfolding runs
   goes-step f kind to from by = record { whole = refl; end = refl }
 

@@ -1,6 +1,6 @@
 -- The shape of the written program: its length, that it is well formed, and how many bootstraps it has.
 --     layout-length          4 times the step count
---     layout-wellFormed      none of the conditions of cause 11
+--     layout-wellFormed      none of the conditions of cause 11, where weights, d and β are residues
 --     layout-bootstraps      m + 2t
 --     step-limit             the step count of a checked plan is small
 --     link-length, product-length, adds-length       the lengths of its pieces
@@ -17,7 +17,7 @@ use Rattle.lists.specs.Places.{sum, joined, at}
 use Rattle.lists.proofs.Sums.{sum-zero, sum-suc}
 use Rattle.field.specs.Residues.{Residues}
 use Rattle.plan.specs.Numbers.{variables, Within}
-use Rattle.plan.specs.Parts.{linkStart, Lent}
+use Rattle.plan.specs.Parts.{linkStart}
 use Rattle.plan.specs.declared.numbers.Plan.{Plan}
 use Rattle.plan.proofs.Bounds.{prime-low}
 use Rattle.program.specs.Steps.{lastRegister, goodStep, wellFormed, bootstraps}
@@ -130,12 +130,12 @@ module _ (P : Plan) where
   unfolding adds
   good-adds r g n hr hn hg = good-joined P (λ j. add r j (g j)) n (λ j h. good-add r j (g j) hr (omega arith) (hg j))
 
-  module _ (w T d β : List ℕ) (within : Within P) (lent : Lent P w T d) (residues : Residues (P .p) β) where
+  module _ (w d β : List ℕ) (within : Within P) (residues-w : Residues (P .p) w) (residues-d : Residues (P .p) d) (residues-β : Residues (P .p) β) where
     good-link : (k : ℕ) → k < P .m → Good P (linkSteps P w k)
     unfolding linkSteps
     good-link k h =
         good-then P (good-clear (P .n + k) (omega arith))
-        (good-then P (good-adds (P .n + k) (λ j. at w (linkStart P k + j)) (P .n + k) (omega arith) (omega arith) (λ j. lent .weights-residues (linkStart P k + j)))
+        (good-then P (good-adds (P .n + k) (λ j. at w (linkStart P k + j)) (P .n + k) (omega arith) (omega arith) (λ j. residues-w (linkStart P k + j)))
         (good-boot (P .n + k) k (omega arith) (omega arith)))
 
     good-product : (i : ℕ) → Good P (productSteps P d β i)
@@ -144,9 +144,9 @@ module _ (P : Plan) where
         let l : ℕ = variables P in
         let low : 3 ≤ P .p = prime-low within in
         good-then P (good-clear l (omega arith))
-        (good-then P (good-adds l (λ j. at β (i * l + j)) l (omega arith) (omega arith) (λ j. residues (i * l + j)))
+        (good-then P (good-adds l (λ j. at β (i * l + j)) l (omega arith) (omega arith) (λ j. residues-β (i * l + j)))
         (good-then P (good-clear (l + 1) (omega arith))
-        (good-then P (good-adds (l + 1) (λ j. at d (i * l + j)) l (omega arith) (omega arith) (λ j. lent .products-residues (i * l + j)))
+        (good-then P (good-adds (l + 1) (λ j. at d (i * l + j)) l (omega arith) (omega arith) (λ j. residues-d (i * l + j)))
         (good-then P (good-clear (l + 2) (omega arith))
         (good-then P (good-add (l + 2) l 1 (omega arith) (omega arith) (omega arith))
         (good-then P (good-add (l + 2) (l + 1) 1 (omega arith) (omega arith) (omega arith))
@@ -165,7 +165,7 @@ module _ (P : Plan) where
         (good-then P (good-joined P (linkSteps P w) (P .m) good-link)
         (good-then P (good-clear (variables P + 4) (le-refl (variables P + 4)))
         (good-then P (good-joined P (productSteps P d β) (P .t) (λ i h. good-product i))
-        (good-adds (variables P + 4) (λ j. at β (P .t * variables P + j)) (variables P) (le-refl (variables P + 4)) (omega arith) (λ j. residues (P .t * variables P + j))))))
+        (good-adds (variables P + 4) (λ j. at β (P .t * variables P + j)) (variables P) (le-refl (variables P + 4)) (omega arith) (λ j. residues-β (P .t * variables P + j))))))
 
 -- the step count of a checked plan is small
 pub step-limit : (P : Plan) → Within P → stepCount P ≤ 20000

@@ -7,8 +7,8 @@
 --     goodStep P kind to from by  the step meets none of the conditions of cause 11, as a test
 --     wellFormed P steps          the list meets none of them, as a test
 --     Registers                   the registers, by number
---     put f r v                   the registers f with register r set to v
---     after P T f kind to from by      the registers after one step
+--     assigned f r v              the registers f with register r set to v
+--     stepped P T f kind to from by    the registers f after one step
 --     registers P T steps digits k     the registers after the first k steps: "Registers 0 to n−1 start as the digits, all others as 0"
 --     bootstraps steps            "the count of kind 2 steps in the list given"
 --     output P T steps digits     y after the whole list
@@ -55,19 +55,19 @@ wellFormed P steps =
 abbrev pub Registers : Type 0
 Registers = ℕ → ℕ
 
-unfoldable pub put : Registers → ℕ → ℕ → Registers
-put f r v k = cond (eqb k r) v (f k)
+unfoldable pub assigned : Registers → ℕ → ℕ → Registers
+assigned f r v k = cond (eqb k r) v (f k)
 
 -- "Kind 0: register `to` becomes 0. Kind 1: `to` gains by times `from`, modulo p. Kind 2, a bootstrap: `to` becomes table number `by` at `from`."
-unfoldable pub after : Plan → List ℕ → Registers → ℕ → ℕ → ℕ → ℕ → Registers
-after P T f kind to from by =
-    cond (eqb kind 0) (put f to 0)
-    (cond (eqb kind 1) (put f to ((f to + by * f from) % P .p)) (put f to (tableAt P T by (f from))))
+unfoldable pub stepped : Plan → List ℕ → Registers → ℕ → ℕ → ℕ → ℕ → Registers
+stepped P T f kind to from by =
+    cond (eqb kind 0) (assigned f to 0)
+    (cond (eqb kind 1) (assigned f to ((f to + by * f from) % P .p)) (assigned f to (tableAt P T by (f from))))
 
 unfoldable pub registers : Plan → List ℕ → List ℕ → List ℕ → ℕ → Registers
 registers P T steps digits zero = at digits
 registers P T steps digits (suc k) =
-    after P T (registers P T steps digits k) (kindOf steps k) (toOf steps k) (fromOf steps k) (byOf steps k)
+    stepped P T (registers P T steps digits k) (kindOf steps k) (toOf steps k) (fromOf steps k) (byOf steps k)
 
 unfoldable pub bootstraps : List ℕ → ℕ
 bootstraps steps = sum (λ i. cond (eqb (kindOf steps i) 2) 1 0) (length steps / 4)

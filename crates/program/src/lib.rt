@@ -4,14 +4,14 @@
 // lent slice, and `write_into` says what the whole slice holds. Crates above call `put_program`, which takes a checked plan, and
 // `step_count`. Stands on `plan`, `field` and `lists`. Renders 01, "The written program", "Running it" and, of "Turned down", causes 10
 // to 12; and Algorithms 1 to 3 of 003. Demand 2 is in proofs/.
-mod entry;
+mod calls;
 mod running;
 mod writing;
 
-pub use entry::check_writing;
-pub use entry::run;
-pub use entry::write;
-pub use entry::write_into;
+pub use calls::check_writing;
+pub use calls::run;
+pub use calls::write;
+pub use calls::write_into;
 pub use running::Ran;
 pub use writing::put_program;
 pub use writing::step_count;

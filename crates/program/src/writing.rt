@@ -1,7 +1,7 @@
 // Writing a program, piece by piece. Each function writes its piece from a place of the slice on and gives the place behind it.
 ghost use mathlib.Core.Path.{_≡_};
 ghost use mathlib.Core.List.{_++_};
-ghost use Prim.Native.Nat.{_+_, _-_, _*_, _/_, _≤_, _<_};
+ghost use Prim.Native.Nat.{_+_, _*_, _≤_, _<_};
 ghost use lib.ListN.{length};
 ghost use Rattle.lists.specs.Places.{joined, placed, at};
 ghost use Rattle.plan.specs.Numbers.{Within, variables, columns};
@@ -11,11 +11,12 @@ ghost use Rattle.program.specs.Placed.{Room, Wrote};
 use plan::Plan;
 
 // The number of steps: m(n+2) + m(m-1)/2 + 1 + t(2L+12) + L. The first two terms are made as one.
-pub fn step_count(n: usize, m: usize, t: usize) -> usize
-    requires { ⌜ (n + m ≤ 64) × (t ≤ 32) ⌝ }
-    ensures { λ r. ⌜ r ≡ m * (n + 2) + m * (m - 1) / 2 + 1 + t * (2 * (n + m) + 12) + (n + m) ⌝ }
+pub fn step_count(plan: Plan) -> usize
+    requires { ⌜ Within plan ⌝ }
+    ensures { λ r. ⌜ r ≡ specs.stepCount plan ⌝ }
 {
-    m * (2 * n + m + 3) / 2 + 1 + t * (2 * (n + m) + 12) + (n + m)
+    let l = plan.variables();
+    plan.m * (l + plan.n + 3) / 2 + 1 + plan.t * (2 * l + 12) + l
 }
 
 // One step.

@@ -1,4 +1,4 @@
--- `program::entry::writing_refusal` meets its contract: the parts' refusal, then 5 for β, then 10. Assumes nothing.
+-- `program::calls::writing_refusal` meets its contract: the parts' refusal, then 5 for β, then 10. Assumes nothing.
 use mathlib.Core.Path.{_≡_, sym, _∙_}
 use native.Mathlib.Nat.{pos-of-ne-zero}
 use native.Mathlib.Omega.{arith}
@@ -12,8 +12,8 @@ use Rattle.program.specs.Layout.{stepCount}
 use Rattle.program.proofs.Shape.{step-limit}
 use Rattle.program.proofs.Answers.{writing-parts, writing-five, writing-ten, writing-none}
 use borrow.Author.Needs.{needs}
-use Rattle.program.proofs.entry.writing_refusal.Statement.{statement}
-use Rattle.program.proofs.entry.writing_refusal.Tie as tie
+use Rattle.program.proofs.calls.writing_refusal.Statement.{statement}
+use Rattle.program.proofs.calls.writing_refusal.Tie as tie
 
 columns-requires : tie.Need-columns-requires
 columns-requires c κs = search needs
@@ -27,12 +27,6 @@ start c = c .before .before .before .before .before .before
 -- the parts' refusal, with β's length against the plan's columns
 parts : (c : tie.After-part-refusal) → c .part-refusal .result ≡ first (partCauses (start c .args .plan) (start c .args .weights .now) (start c .args .tables .now) (start c .args .d .now) (eqb (length (start c .args .beta .now)) (columns (start c .args .plan))))
 parts c = rw (c .before .columns .ensures) at (c .part-refusal .ensures)
-
-counted : (c : tie.After-step-count) →
-    let args = c .before .before .before .before .before .before .before .before .before .before .args in
-    c .step-count .result ≡ stepCount (args .plan)
-unfolding stepCount
-counted c = c .step-count .ensures
 
 returns : tie.Need-returns
 returns c = writing-parts _ _ _ _ _ _ _ (parts (c .before)) (pos-of-ne-zero (c .if1 .taken))
@@ -52,21 +46,21 @@ mul-if3 : tie.Need-mul-if3
 mul-if3 c =
     let args = c .before .before .before .before .before .before .before .before .before .before .args in
     let pre = c .before .before .before .before .before .before .before .before .before .before .pre in
-    omega (arith, counted (c), step-limit (args .plan) (pre))
+    omega (arith, c .step-count .ensures, step-limit (args .plan) (pre))
 
 returns-3 : tie.Need-returns-3
 returns-3 c =
     let if1 = c .before .before .before .before .if1 in
     let all-below = c .before .before .before .all-below in
     let r = c .before .before .before .before .before in
-    writing-ten _ _ _ _ _ _ (sym (if1 .left) ∙ parts r) (sym (all-below .ensures) ∙ not-false _ (c .before .before .if2 .left)) (rw (counted (c .before)) at (c .if3 .taken))
+    writing-ten _ _ _ _ _ _ (sym (if1 .left) ∙ parts r) (sym (all-below .ensures) ∙ not-false _ (c .before .before .if2 .left)) (rw (c .before .step-count .ensures) at (c .if3 .taken))
 
 returns-4 : tie.Need-returns-4
 returns-4 c =
     let if1 = c .before .before .before .before .if1 in
     let all-below = c .before .before .before .all-below in
     let r = c .before .before .before .before .before in
-    writing-none _ _ _ _ _ _ (sym (if1 .left) ∙ parts r) (sym (all-below .ensures) ∙ not-false _ (c .before .before .if2 .left)) (rw (counted (c .before)) at (c .if3 .left))
+    writing-none _ _ _ _ _ _ (sym (if1 .left) ∙ parts r) (sym (all-below .ensures) ∙ not-false _ (c .before .before .if2 .left)) (rw (c .before .step-count .ensures) at (c .if3 .left))
 
 pub writing-refusal-spec : {M : Type 1} → statement M
 writing-refusal-spec =

@@ -1,12 +1,12 @@
--- `program::entry::check_writing` meets its contract: the constructor's refusal, or the checked plan's. Assumes nothing.
+-- `program::calls::check_writing` meets its contract: the constructor's refusal, or the checked plan's. Assumes nothing.
 use mathlib.Core.Path.{_≡_, sym, ap, _∙_}
 use Rattle.plan.specs.Numbers.{answerOf, checked}
 use Rattle.plan.specs.declared.numbers.Checked.the-variants.{Accepted, Refused}
 use Rattle.plan.proofs.Refusals.{call-within}
 use Rattle.program.proofs.Answers.{write-numbers, write-checked}
 use borrow.Author.Needs.{needs}
-use Rattle.program.proofs.entry.check_writing.Statement.{statement}
-use Rattle.program.proofs.entry.check_writing.Tie as tie
+use Rattle.program.proofs.calls.check_writing.Statement.{statement}
+use Rattle.program.proofs.calls.check_writing.Tie as tie
 
 abbrev start : tie.After-new → tie.Start
 start c = c .before .before .before .before .before .before

@@ -1,4 +1,4 @@
--- `program::entry::write_into` meets its contract: each return is the first cause met, and only the last one has written. Assumes nothing.
+-- `program::calls::write_into` meets its contract: each return is the first cause met, and only the last one has written. Assumes nothing.
 use mathlib.Core.Path.{_≡_, sym, ap, _∙_}
 use native.Mathlib.Nat.{pos-of-ne-zero}
 use native.Mathlib.Omega.{arith}
@@ -8,8 +8,8 @@ use Rattle.plan.proofs.Refusals.{call-plan, call-within}
 use Rattle.program.proofs.Answers.{writing-accepted, write-numbers, write-checked, written-refused, written-done}
 use Rattle.program.proofs.Shape.{layout-length}
 use borrow.Author.Needs.{needs}
-use Rattle.program.proofs.entry.write_into.Statement.{statement}
-use Rattle.program.proofs.entry.write_into.Tie as tie
+use Rattle.program.proofs.calls.write_into.Statement.{statement}
+use Rattle.program.proofs.calls.write_into.Tie as tie
 
 abbrev start : tie.After-new → tie.Start
 start c = c .before .before .before .before .before .before

@@ -1,4 +1,4 @@
--- `program::entry::run` meets its contract: each return is the first cause met, or the run's answer (`Answers`). Assumes nothing.
+-- `program::calls::run` meets its contract: each return is the first cause met, or the run's answer (`Answers`). Assumes nothing.
 use mathlib.Core.Path.{_≡_, sym, ap, _∙_}
 use mathlib.Core.List.{[], _∷_}
 use native.Mathlib.Nat.{pos-of-ne-zero}
@@ -12,8 +12,8 @@ use Rattle.plan.proofs.Refusals.{call-plan, call-within, lent-of}
 use Rattle.program.specs.Steps.{output, bootstraps}
 use Rattle.program.proofs.Answers.{run-numbers, run-parts, run-eleven, run-twelve, run-done, digit-residues}
 use borrow.Author.Needs.{needs}
-use Rattle.program.proofs.entry.run.Statement.{statement}
-use Rattle.program.proofs.entry.run.Tie as tie
+use Rattle.program.proofs.calls.run.Statement.{statement}
+use Rattle.program.proofs.calls.run.Tie as tie
 
 abbrev start : tie.After-new → tie.Start
 start c = c .before .before .before .before .before .before

@@ -1,4 +1,4 @@
--- `program::entry::write` meets its contract: what `write_into` has written is handed back up to its end. Assumes nothing.
+-- `program::calls::write` meets its contract: what `write_into` has written is handed back up to its end. Assumes nothing.
 use mathlib.Core.Path.{_≡_, refl, sym, ap, _∙_}
 use Prim.Native.Nat.{ℕ, _*_, _≤_}
 use native.Mathlib.Omega.{arith}
@@ -9,11 +9,12 @@ use Rattle.plan.specs.Numbers.{plan, Within}
 use Rattle.program.specs.Layout.{stepCount}
 use Rattle.program.specs.Calls.{writingCauses}
 use Rattle.plan.specs.declared.numbers.Plan.{Plan}
+use Rattle.plan.proofs.Bounds.{prime-high}
 use Rattle.program.proofs.Shape.{step-limit}
 use Rattle.program.proofs.Answers.{writing-accepted, write-within, handed-refused, handed-done}
 use borrow.Author.Needs.{needs}
-use Rattle.program.proofs.entry.write.Statement.{statement}
-use Rattle.program.proofs.entry.write.Tie as tie
+use Rattle.program.proofs.calls.write.Statement.{statement}
+use Rattle.program.proofs.calls.write.Tie as tie
 
 abbrev start : tie.After-write-into → tie.Start
 start c = c .before .before .before .before .before .before .before
@@ -42,25 +43,27 @@ fine c = write-within _ _ _ _ _ _ _ _ _ _ (sym (called c .write-into .ensures .0
 fits : (c : tie.Else1) → 4 * stepCount (planned c) ≤ length (start (called c) .args .steps .now)
 fits c = let a = start (called c) .args in writing-accepted (planned c) (a .weights .now) (a .tables .now) (a .d .now) (a .beta .now) (length (a .steps .now)) (fine c .0) (fine c .1) .3
 
-counted : (c : tie.After-step-count) → c .step-count .result ≡ stepCount (planned (c .before))
-unfolding stepCount
-counted c = c .step-count .ensures
+cast-p : tie.Need-cast-p
+cast-p c = omega (arith, prime-high (fine c .0))
+
+cast-s : tie.Need-cast-s
+cast-s c = omega (arith, prime-high (fine c .0), fine c .0 .radix-high)
 
 step-count-requires : tie.Need-step-count-requires
-step-count-requires c κs = (fine (c) .0 .variable-limit, fine (c) .0 .product-limit)
+step-count-requires c κs = fine c .0
 
 mul-end : tie.Need-mul-end
-mul-end c = omega (arith, counted (c), step-limit (planned (c .before)) (fine (c .before) .0))
+mul-end c = omega (arith, c .step-count .ensures, step-limit (planned (c .before)) (fine (c .before) .0))
 
 slice-aggregate-result-2 : tie.Need-slice-aggregate-result-2
 slice-aggregate-result-2 c =
     let write-into = c .before .before .before .before .before .write-into in
-    sym (length-take-le _ _ (omega (arith, counted (c .before), fits (c .before .before), write-into .kept .1 .1 .1 .1 .1 .1 .1 .1 .1 .0)))
+    sym (length-take-le _ _ (omega (arith, c .before .step-count .ensures, fits (c .before .before), write-into .kept .1 .1 .1 .1 .1 .1 .1 .1 .1 .0)))
 
 returns-2 : tie.Need-returns-2
 returns-2 c =
     let write-into = c .before .before .before .before .before .write-into in
-    (handed-done _ _ _ _ _ _ _ _ _ (c .before .before .if1 .left) (write-into .ensures .0) (write-into .ensures .1) (ap (λ (k : ℕ). 4 * k) (counted (c .before))), refl)
+    (handed-done _ _ _ _ _ _ _ _ _ (c .before .before .if1 .left) (write-into .ensures .0) (write-into .ensures .1) (ap (λ (k : ℕ). 4 * k) (c .before .step-count .ensures)), refl)
 
 pub write-spec : {M : Type 1} → statement M
 write-spec =
@@ -69,6 +72,8 @@ write-spec =
     write-into-requires
     slice-aggregate-result
     returns
+    cast-p
+    cast-s
     step-count-requires
     mul-end
     slice-aggregate-result-2

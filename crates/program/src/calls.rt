@@ -31,7 +31,7 @@ fn writing_refusal(
     if !field::all_below(beta, plan.p) {
         return 5;
     }
-    if room < 4 * step_count(plan.n, plan.m, plan.t) {
+    if room < 4 * step_count(plan) {
         return 10;
     }
     0
@@ -106,7 +106,9 @@ pub fn write<'a>(
     if write_into(p, s, n, m, t, weights, tables, d, beta, steps) != 0 {
         return &mut steps[..0];
     }
-    let end = 4 * step_count(n, m, t);
+    let p = p as u8;
+    let s = s as u8;
+    let end = 4 * step_count(Plan { p, s, n, m, t });
     &mut steps[..end]
 }
 
