@@ -3,6 +3,7 @@
 --     room-front, wrote-room         the room for two pieces: for the first, and for the second once the first is written
 --     wrote-then, wrote-3, wrote-4, wrote-6       two and more pieces one behind the other
 --     wrote-length                   the slice keeps its length
+--     wrote-as                       the same piece in other words
 --     none-joined, next-room, wrote-next, joined-all       a loop over a list of pieces
 --     adds-none, adds-room, adds-next, adds-all            a loop over the steps of a sum
 --     adds-cut                       the sum over a part of a list of weights
@@ -28,6 +29,9 @@ use Rattle.program.specs.Placed.{Room, Wrote}
 
 pub room-front : (out : List ℕ) (k : ℕ) (xs ys : List ℕ) → Room out k (xs ++ ys) → Room out k xs
 room-front out k xs ys h = omega (arith, length-append xs ys, h)
+
+pub wrote-as : {out left xs ys : List ℕ} {k end : ℕ} → xs ≡ ys → Wrote out k xs end left → Wrote out k ys end left
+wrote-as {out} {left} {xs} {ys} {k} {end} e w = subst (λ (zs : List ℕ). Wrote out k zs end left) e w
 
 pub wrote-length : {out left : List ℕ} {k end : ℕ} (xs : List ℕ) → Room out k xs → Wrote out k xs end left → length left ≡ length out
 wrote-length {out} {left} {k} xs room w = ap length (w .list) ∙ placed-length out k xs room
@@ -109,9 +113,8 @@ joined-room F out k j n h room =
 -- the turn of a loop over the pieces
 pub wrote-next : {out left last : List ℕ} {k end next : ℕ} (F : ℕ → List ℕ) (j n : ℕ) → j < n → Room out k (joined F n)
     → Wrote out k (joined F j) end left → Wrote left end (F j) next last → Wrote out k (joined F (j + 1)) next last
-wrote-next {out} {left} {last} {k} {end} {next} F j n h room w v =
-    subst (λ (xs : List ℕ). Wrote out k xs next last) (sym (joined-next F j))
-    (wrote-then (joined F j) (F j) (joined-room F out k j n h room) w v)
+wrote-next {out} {left} {last} {k} F j n h room w v =
+    wrote-as (sym (joined-next F j)) (wrote-then (joined F j) (F j) (joined-room F out k j n h room) w v)
 
 pub next-room : {out left : List ℕ} {k end : ℕ} (F : ℕ → List ℕ) (j n : ℕ) → j < n → Room out k (joined F n) → Wrote out k (joined F j) end left → Room left end (F j)
 next-room {out} {left} {k} F j n h room w = wrote-room (joined F j) (F j) (joined-room F out k j n h room) w

@@ -5,16 +5,57 @@ use Prim.Native.Nat.{ℕ, _+_, _-_, _*_, _≤_}
 use native.Mathlib.Nat.{le-of-eq}
 use native.Mathlib.Omega.{arith}
 use lib.ListN.{length, take, drop}
-use Rattle.lists.specs.Places.{joined, placed, at}
+use Rattle.lists.specs.Places.{joined, at}
 use Rattle.lists.proofs.Parts.{cut-length}
 use Rattle.plan.specs.Numbers.{variables, columns}
 use Rattle.plan.proofs.Blocks.{last-room}
 use Rattle.program.specs.Layout.{clear, adds, linkSteps, productSteps, layout}
 use Rattle.program.specs.Placed.{Room}
-use Rattle.program.proofs.Placement.{layout-split, room-front, wrote-room, wrote-4}
+use Rattle.program.proofs.Placement.{layout-split, room-front, wrote-room, wrote-4, wrote-as}
 use borrow.Author.Needs.{needs}
 use Rattle.program.proofs.writing.put_program.Statement.{statement}
 use Rattle.program.proofs.writing.put_program.Tie as tie
+
+abbrev start : tie.After-variables → tie.Start
+start c = c .before .before .before .before .before
+
+-- L as the code has it, the place of the last row in β, that it lies within, and the four pieces
+module _ (c : tie.After-variables) where
+  abbrev l : ℕ
+  l = c .variables .result
+
+  abbrev begin : ℕ
+  begin = start c .args .plan .t * l
+
+  begins : begin ≡ start c .args .plan .t * variables (start c .args .plan)
+  begins = ap (λ (l : ℕ). start c .args .plan .t * l) (c .variables .ensures)
+
+  ends : begin + l ≡ columns (start c .args .plan)
+  ends = last-room (start c .args .plan) _ _ begins (c .variables .ensures)
+
+  fits : begin + l ≤ length (start c .args .beta .now)
+  fits = le-of-eq (ends ∙ sym (start c .pre .1 .1 .0 .1))
+
+  abbrev row : List ℕ
+  row = take (begin + l - begin) (drop begin (start c .args .beta .now))
+
+  abbrev links : List ℕ
+  links = joined (linkSteps (start c .args .plan) (start c .args .weights .now)) (start c .args .plan .m)
+
+  abbrev cleared : List ℕ
+  cleared = clear (l + 4)
+
+  abbrev products : List ℕ
+  products = joined (productSteps (start c .args .plan) (start c .args .d .now) (start c .args .beta .now)) (start c .args .plan .t)
+
+  abbrev last : List ℕ
+  last = adds (l + 4) (at row) (length row)
+
+  split : links ++ (cleared ++ (products ++ last)) ≡ layout (start c .args .plan) (start c .args .weights .now) (start c .args .d .now) (start c .args .beta .now)
+  split = layout-split (start c .args .plan) _ _ _ _ _ fits begins (c .variables .ensures)
+
+  room : Room (start c .args .out .now) 0 (links ++ (cleared ++ (products ++ last)))
+  room = subst (Room (start c .args .out .now) 0) (sym split) (start c .pre .1 .1 .1)
 
 variables-requires : tie.Need-variables-requires
 variables-requires c κs = search needs
@@ -25,70 +66,38 @@ cast-y c = search needs
 add-y : tie.Need-add-y
 add-y c = search needs
 
-abbrev start : tie.After-variables → tie.Start
-start c = c .before .before .before .before .before
-
-abbrev first : tie.After-variables → ℕ
-first c = start c .args .plan .t * c .variables .result
-
--- the place of the last row in β, and that it lies within
-begins : (c : tie.After-variables) → first c ≡ start c .args .plan .t * variables (start c .args .plan)
-begins c = ap (λ (l : ℕ). start c .args .plan .t * l) (c .variables .ensures)
-
-ends : (c : tie.After-variables) → first c + c .variables .result ≡ columns (start c .args .plan)
-ends c = last-room (start c .args .plan) (first c) (c .variables .result) (begins c) (c .variables .ensures)
-
-fits : (c : tie.After-variables) → first c + c .variables .result ≤ length (start c .args .beta .now)
-fits c = le-of-eq (ends c ∙ sym (start c .pre .1 .1 .0 .1))
-
-abbrev links : tie.After-variables → List ℕ
-links c = joined (linkSteps (start c .args .plan) (start c .args .weights .now)) (start c .args .plan .m)
-
-abbrev cleared : tie.After-variables → List ℕ
-cleared c = clear (c .variables .result + 4)
-
-abbrev products : tie.After-variables → List ℕ
-products c = joined (productSteps (start c .args .plan) (start c .args .d .now) (start c .args .beta .now)) (start c .args .plan .t)
-
-abbrev last : tie.After-variables → List ℕ
-last c = adds (c .variables .result + 4) (at (take (first c + c .variables .result - first c) (drop (first c) (start c .args .beta .now)))) (length (take (first c + c .variables .result - first c) (drop (first c) (start c .args .beta .now))))
-
-split : (c : tie.After-variables) → links c ++ (cleared c ++ (products c ++ last c)) ≡ layout (start c .args .plan) (start c .args .weights .now) (start c .args .d .now) (start c .args .beta .now)
-split c = layout-split (start c .args .plan) (start c .args .weights .now) (start c .args .d .now) (start c .args .beta .now) (first c) (c .variables .result) (fits c) (begins c) (c .variables .ensures)
-
-room : (c : tie.After-variables) → Room (start c .args .out .now) 0 (links c ++ (cleared c ++ (products c ++ last c)))
-room c = subst (Room (start c .args .out .now) 0) (sym (split c)) (start c .pre .1 .1 .1)
-
 mul-start : tie.Need-mul-start
-mul-start c =
-    let pre = c .before .before .before .before .before .before .pre in
-    omega (arith, ends (c .before), pre .0 .column-limit)
+mul-start c = omega (arith, ends (c .before), start (c .before) .pre .0 .column-limit)
 
 add-end : tie.Need-add-end
-add-end c =
-    let pre = c .before .before .before .before .before .before .pre in
-    omega (arith, ends (c .before), pre .0 .column-limit)
+add-end c = omega (arith, ends (c .before), start (c .before) .pre .0 .column-limit)
 
 put-links-requires : tie.Need-put-links-requires
 put-links-requires c κs =
-    let s = (c .before .before) in
-    (start s .pre .0, (start s .pre .1 .0, room-front (start s .args .out .now) 0 (links s) (cleared s ++ (products s ++ last s)) (room s)))
+    let r = c .before .before in
+    (start r .pre .0, (start r .pre .1 .0, room-front (start r .args .out .now) 0 (links r) (cleared r ++ (products r ++ last r)) (room r)))
+
+-- the room behind the links, and behind y's step
+behind-links : (c : tie.After-put-links) → let r = c .before .before .before in Room (c .put-links .last .1 .1 .0) (c .put-links .result) (cleared r ++ (products r ++ last r))
+behind-links c = let r = c .before .before .before in wrote-room (links r) (cleared r ++ (products r ++ last r)) (room r) (c .put-links .ensures)
+
+behind-step : (c : tie.After-put-step) → let r = c .before .before .before .before .before .before .before in Room (c .put-step .last .0) (c .put-step .result) (products r ++ last r)
+behind-step c =
+    let put = c .before .before .before .before in
+    let r = put .before .before .before in
+    wrote-room (cleared r) (products r ++ last r) (behind-links put) (c .put-step .ensures)
 
 put-step-requires : tie.Need-put-step-requires
 put-step-requires c κs =
-    let put-links = c .before .before .before .put-links in
-    let r = c .before .before .before .before .before .before in
-    let s = r in
-    room-front (put-links .last .1 .1 .0) (put-links .result) (cleared s) (products s ++ last s) (wrote-room (links s) (cleared s ++ (products s ++ last s)) (room s) (put-links .ensures))
+    let put = c .before .before .before in
+    let r = put .before .before .before in
+    room-front (put .put-links .last .1 .1 .0) (put .put-links .result) (cleared r) (products r ++ last r) (behind-links put)
 
 put-products-requires : tie.Need-put-products-requires
 put-products-requires c κs =
-    let put-links = c .before .before .before .before .before .before .before .put-links in
-    let put-step = c .before .before .before .put-step in
-    let r = c .before .before .before .before .before .before .before .before .before .before in
-    let s = r in
-    let rest = wrote-room (cleared s) (products s ++ last s) (wrote-room (links s) (cleared s ++ (products s ++ last s)) (room s) (put-links .ensures)) (put-step .ensures) in
-    (start s .pre .0, (start s .pre .1 .1 .0, room-front (put-step .last .0) (put-step .result) (products s) (last s) rest))
+    let step = c .before .before .before in
+    let r = step .before .before .before .before .before .before .before in
+    (start r .pre .0, (start r .pre .1 .1 .0, room-front (step .put-step .last .0) (step .put-step .result) (products r) (last r) (behind-step step)))
 
 sub-put-adds : tie.Need-sub-put-adds
 sub-put-adds c = search needs
@@ -97,32 +106,25 @@ part-put-adds-start : tie.Need-part-put-adds-start
 part-put-adds-start c = search needs
 
 part-put-adds-end : tie.Need-part-put-adds-end
-part-put-adds-end c =
-    let r = c .before .before .before .before .before .before .before .before .before .before .before .before .before .before in
-    fits r
+part-put-adds-end c = fits (c .before .before .before .before .before .before .before .before .before .before .before .before .before .before)
 
 put-adds-requires : tie.Need-put-adds-requires
 put-adds-requires c κs =
-    let put-links = c .before .before .before .before .before .before .before .before .before .before .before .before .put-links in
-    let put-step = c .before .before .before .before .before .before .before .before .put-step in
-    let put-products = c .before .before .before .before .put-products in
-    let r = c .before .before .before .before .before .before .before .before .before .before .before .before .before .before .before in
-    let s = r in
-    let rest = wrote-room (cleared s) (products s ++ last s) (wrote-room (links s) (cleared s ++ (products s ++ last s)) (room s) (put-links .ensures)) (put-step .ensures) in
-    (omega (arith, cut-length (start s .args .beta .now) (first s) (s .variables .result) (fits s), s .variables .ensures, start s .pre .0 .variable-limit), wrote-room (products s) (last s) rest (put-products .ensures))
+    let step = c .before .before .before .before .before .before .before .before in
+    let r = step .before .before .before .before .before .before .before in
+    let e = cut-length (start r .args .beta .now) (begin r) (l r) (fits r) in
+    (omega (arith, e, r .variables .ensures, start r .pre .0 .variable-limit), wrote-room (products r) (last r) (behind-step step) (c .before .before .before .before .put-products .ensures))
 
 same-length : tie.Need-same-length
 same-length c = search needs
 
 returns : tie.Need-returns
 returns c =
-    let put-links = c .before .before .before .before .before .before .before .before .before .before .before .before .before .before .before .put-links in
-    let put-step = c .before .before .before .before .before .before .before .before .before .before .before .put-step in
-    let put-products = c .before .before .before .before .before .before .before .put-products in
-    let r = c .before .before .before .before .before .before .before .before .before .before .before .before .before .before .before .before .before .before in
-    let s = r in
-    let w = wrote-4 (links s) (cleared s) (products s) (last s) (room s) (put-links .ensures) (put-step .ensures) (put-products .ensures) (c .before .before .put-adds .ensures) in
-    w .list ∙ ap (placed (start s .args .out .now) 0) (split s)
+    let products-put = c .before .before .before .before .before .before .before in
+    let step = products-put .before .before .before .before in
+    let links-put = step .before .before .before .before in
+    let r = links-put .before .before .before in
+    wrote-as (split r) (wrote-4 (links r) (cleared r) (products r) (last r) (room r) (links-put .put-links .ensures) (step .put-step .ensures) (products-put .put-products .ensures) (c .before .before .put-adds .ensures)) .list
 
 pub put-program-spec : {M : Type 1} → statement M
 put-program-spec =
