@@ -16,6 +16,14 @@ Inv-loop out₀ begin to weights next₀ j₀ out next j = (j ≤ length weights
 abbrev μ-loop : tie.MeasureT-loop
 μ-loop out₀ begin to weights next₀ j₀ out next j = length weights - j
 
+abbrev start : tie.At-loop Inv-loop μ-loop → tie.Start Inv-loop μ-loop
+start c = c .before .before .before
+
+-- the whole sum is written where the loop ends
+all : (c : tie.After-loop Inv-loop μ-loop) → let r = c .before in let a = start r .args in
+    Wrote (a .out .now) (a .begin) (adds (a .to) (at (a .weights .now)) (length (a .weights .now))) (r .loop .next) (r .loop .out)
+all c = let r = c .before in adds-all _ (at (start r .args .weights .now)) (r .loop .j) _ (r .loop .inv .0) (c .loop-test .left) (r .loop .inv .1)
+
 loop-holds : tie.Need-loop-holds Inv-loop μ-loop
 loop-holds c = (omega arith, adds-none _ _ _ _)
 
@@ -26,17 +34,13 @@ shared-slice-read-put-step : tie.Need-shared-slice-read-put-step Inv-loop μ-loo
 shared-slice-read-put-step c = omega arith
 
 cast-put-step-2 : tie.Need-cast-put-step-2 Inv-loop μ-loop
-cast-put-step-2 c =
-    let shared-slice-known = c .before .before .before .before .shared-slice-known in
-    let loop = c .before .before .before .loop in
-    omega (arith, shared-slice-known .given (loop .j))
+cast-put-step-2 c = let r = c .before .before .before in omega (arith, r .before .shared-slice-known .given (r .loop .j))
 
 put-step-requires : tie.Need-put-step-requires Inv-loop μ-loop
 put-step-requires c κs =
-    let args = c .before .before .before .before .before .before .args in
-    let loop = c .before .before .before .loop in
-    let pre = c .before .before .before .before .before .before .pre in
-    adds-room _ (at (args .weights .now)) (loop .j) (length (args .weights .now)) (c .before .before .loop-test .taken) (pre .1) (loop .inv .1)
+    let r = c .before .before .before in
+    let ws = start r .args .weights .now in
+    adds-room _ (at ws) (r .loop .j) (length ws) (c .before .before .loop-test .taken) (start r .pre .1) (r .loop .inv .1)
 
 add-j : tie.Need-add-j Inv-loop μ-loop
 add-j c = omega arith
@@ -46,21 +50,15 @@ loop-less c = omega arith
 
 loop-again : tie.Need-loop-again Inv-loop μ-loop
 loop-again c =
-    let args = c .before .before .before .before .before .before .before .before .before .args in
-    let loop = c .before .before .before .before .before .before .loop in
-    let pre = c .before .before .before .before .before .before .before .before .before .pre in
-    (omega arith, adds-next _ (at (args .weights .now)) (loop .j) (length (args .weights .now)) (c .before .before .before .before .before .loop-test .taken) (pre .1) (loop .inv .1) (c .before .before .put-step .ensures))
+    let r = c .before .before .before .before .before .before in
+    let ws = start r .args .weights .now in
+    (omega arith, adds-next _ (at ws) (r .loop .j) (length ws) (c .before .before .before .before .before .loop-test .taken) (start r .pre .1) (r .loop .inv .1) (c .before .before .put-step .ensures))
 
 same-length : tie.Need-same-length Inv-loop μ-loop
-same-length c =
-    let pre = c .before .before .before .before .pre in
-    let args = c .before .before .before .before .args in
-    wrote-length _ (pre .1) (adds-all _ (at (args .weights .now)) (c .before .loop .j) (length (args .weights .now)) (c .before .loop .inv .0) (c .loop-test .left) (c .before .loop .inv .1))
+same-length c = wrote-length _ (start (c .before) .pre .1) (all c)
 
 returns : tie.Need-returns Inv-loop μ-loop
-returns c =
-    let args = c .before .before .before .before .args in
-    adds-all _ (at (args .weights .now)) (c .before .loop .j) (length (args .weights .now)) (c .before .loop .inv .0) (c .loop-test .left) (c .before .loop .inv .1)
+returns c = all c
 
 pub put-adds-spec : {M : Type 1} → statement M
 put-adds-spec =

@@ -1,5 +1,6 @@
 -- `program::writing::put_products` meets its contract: after i turns the first i products are written. Assumes nothing.
-use Prim.Native.Nat.{_-_, _≤_}
+use mathlib.Core.List.{List}
+use Prim.Native.Nat.{ℕ, _-_, _≤_}
 use native.Mathlib.Omega.{arith}
 use Rattle.lists.specs.Places.{joined}
 use Rattle.program.specs.Layout.{productSteps}
@@ -14,15 +15,25 @@ Inv-loop plan d beta out₀ begin next₀ i₀ out next i = (i ≤ plan .t) × W
 abbrev μ-loop : tie.MeasureT-loop
 μ-loop plan d beta out₀ begin next₀ i₀ out next i = plan .t - i
 
+abbrev start : tie.At-loop Inv-loop μ-loop → tie.Start Inv-loop μ-loop
+start c = c .before .before .before .before
+
+abbrev each : tie.At-loop Inv-loop μ-loop → ℕ → List ℕ
+each c = productSteps (start c .args .plan) (start c .args .d .now) (start c .args .beta .now)
+
+-- all products are written where the loop ends
+all : (c : tie.Else1 Inv-loop μ-loop) → let r = c .before .before in Wrote (start r .args .out .now) (start r .args .begin) (joined (each r) (start r .args .plan .t)) (r .loop .next) (r .loop .out)
+all c = let r = c .before .before in joined-all (each r) (r .loop .i) (start r .args .plan .t) (r .loop .inv .0) (c .if1 .left) (r .loop .inv .1)
+
 loop-holds : tie.Need-loop-holds Inv-loop μ-loop
 loop-holds c = (omega arith, none-joined _ _ _)
 
 put-product-requires : tie.Need-put-product-requires Inv-loop μ-loop
 put-product-requires c κs =
-    let pre = c .before .before .before .before .before .before .before .pre in
-    let args = c .before .before .before .before .before .before .before .args in
-    let loop = c .before .before .before .loop in
-    (pre .0, (pre .1 .0, (c .before .if1 .taken, next-room (productSteps (args .plan) (args .d .now) (args .beta .now)) (loop .i) (args .plan .t) (c .before .if1 .taken) (pre .1 .1) (loop .inv .1))))
+    let r = c .before .before .before in
+    let pre = start r .pre in
+    let more = c .before .if1 .taken in
+    (pre .0, (pre .1 .0, (more, next-room (each r) (r .loop .i) (start r .args .plan .t) more (pre .1 .1) (r .loop .inv .1))))
 
 add-i : tie.Need-add-i Inv-loop μ-loop
 add-i c = omega arith
@@ -32,22 +43,15 @@ loop-less c = omega arith
 
 loop-again : tie.Need-loop-again Inv-loop μ-loop
 loop-again c =
-    let args = c .before .before .before .before .before .before .before .before .before .before .args in
-    let loop = c .before .before .before .before .before .before .loop in
-    let if1 = c .before .before .before .before .if1 in
-    let pre = c .before .before .before .before .before .before .before .before .before .before .pre in
-    (omega arith, wrote-next (productSteps (args .plan) (args .d .now) (args .beta .now)) (loop .i) (args .plan .t) (if1 .taken) (pre .1 .1) (loop .inv .1) (c .before .before .put-product .ensures))
+    let r = c .before .before .before .before .before .before in
+    let more = c .before .before .before .before .if1 .taken in
+    (omega arith, wrote-next (each r) (r .loop .i) (start r .args .plan .t) more (start r .pre .1 .1) (r .loop .inv .1) (c .before .before .put-product .ensures))
 
 same-length : tie.Need-same-length Inv-loop μ-loop
-same-length c =
-    let pre = c .before .before .before .before .before .before .pre in
-    let args = c .before .before .before .before .before .before .args in
-    wrote-length _ (pre .1 .1) (joined-all (productSteps (args .plan) (args .d .now) (args .beta .now)) (c .before .before .loop .i) (args .plan .t) (c .before .before .loop .inv .0) (c .if1 .left) (c .before .before .loop .inv .1))
+same-length c = wrote-length _ (start (c .before .before) .pre .1 .1) (all c)
 
 returns : tie.Need-returns Inv-loop μ-loop
-returns c =
-    let args = c .before .before .before .before .before .before .args in
-    joined-all (productSteps (args .plan) (args .d .now) (args .beta .now)) (c .before .before .loop .i) (args .plan .t) (c .before .before .loop .inv .0) (c .if1 .left) (c .before .before .loop .inv .1)
+returns c = all c
 
 pub put-products-spec : {M : Type 1} → statement M
 put-products-spec =
