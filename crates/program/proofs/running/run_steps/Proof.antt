@@ -36,29 +36,19 @@ positive : (c : tie.In-loop Inv-loop μ-loop) → 0 < start c .args .plan .p
 positive c = omega (arith, prime-low (start c .pre .0))
 
 rem-inverse : tie.Need-rem-inverse Inv-loop μ-loop
-rem-inverse c =
-    let pre = c .before .before .before .pre in
-    omega (arith, prime-low (pre .0))
+rem-inverse c = omega (arith, prime-low (c .before .before .before .pre .0))
 
 inverse-requires : tie.Need-inverse-requires Inv-loop μ-loop
-inverse-requires c κs =
-    let pre = c .before .before .before .pre in
-    (modulus (pre .0), mod-lt 4 (omega (arith, prime-low (pre .0))))
+inverse-requires c κs = let pre = c .before .before .before .pre in (modulus (pre .0), mod-lt 4 (omega (arith, prime-low (pre .0))))
 
 reciprocal-requires : tie.Need-reciprocal-requires Inv-loop μ-loop
-reciprocal-requires c κs =
-    let pre = c .before .before .before .before .pre in
-    modulus (pre .0)
+reciprocal-requires c κs = modulus (c .before .before .before .before .pre .0)
 
 new-requires : tie.Need-new-requires Inv-loop μ-loop
-new-requires c κs =
-    let pre = c .before .before .before .before .before .pre in
-    omega (arith, pre .1 .1 .1 .0, pre .0 .variable-limit)
+new-requires c κs = let pre = c .before .before .before .before .before .pre in omega (arith, pre .1 .1 .1 .0, pre .0 .variable-limit)
 
 loop-holds : tie.Need-loop-holds Inv-loop μ-loop
-loop-holds c =
-    let pre = c .before .before .before .before .before .before .pre in
-    running-none _ _ _ _ _ (c .new .ensures .0) (c .new .ensures .1) (pre .1 .1 .1 .1)
+loop-holds c = running-none _ _ _ _ _ (c .new .ensures .0) (c .new .ensures .1) (c .before .before .before .before .before .before .pre .1 .1 .1 .1)
 
 mul-k : tie.Need-mul-k Inv-loop μ-loop
 mul-k c = omega arith
@@ -91,9 +81,7 @@ shared-slice-read-from : tie.Need-shared-slice-read-from Inv-loop μ-loop
 shared-slice-read-from c = omega arith
 
 cast-from : tie.Need-cast-from Inv-loop μ-loop
-cast-from c =
-    let r = c .before .before .before in
-    omega (arith, from-inside r)
+cast-from c = omega (arith, from-inside (c .before .before .before))
 
 add-by : tie.Need-add-by Inv-loop μ-loop
 add-by c = omega arith
@@ -108,74 +96,59 @@ add-i : tie.Need-add-i Inv-loop μ-loop
 add-i c = omega arith
 
 clear-requires : tie.Need-clear-requires Inv-loop μ-loop
-clear-requires c κs =
-    let loop = c .before .before .before .before .before .before .loop in
-    let r = c .before .before .before .before .before in
-    (loop .inv .size, to-inside r)
+clear-requires c κs = let r = c .before .before .before .before .before in (r .before .loop .inv .size, to-inside r)
 
 loop-less : tie.Need-loop-less Inv-loop μ-loop
 loop-less c = omega arith
 
 loop-again : tie.Need-loop-again Inv-loop μ-loop
 loop-again c =
-    let loop = c .before .before .before .before .before .before .before .loop in
     let r = c .before .before .before .before .before .before in
-    running-clear _ _ _ _ (loop .inv) (c .before .before .before .before .before .before .loop-test .taken) (to-inside r) _ (c .clear .ensures) (positive r) (c .before .if1 .taken)
+    running-clear _ _ _ _ (r .before .loop .inv) (r .loop-test .taken) (to-inside r) _ (c .clear .ensures) (positive r) (c .before .if1 .taken)
 
 cast-add : tie.Need-cast-add Inv-loop μ-loop
 cast-add c =
-    let pre = c .before .before .before .before .before .before .before .before .before .before .before .before .before .before .pre in
     let r = c .before .before .before .before .before .before in
-    omega (arith, facts r .weight (c .if2 .taken), prime-high (pre .0))
+    omega (arith, facts r .weight (c .if2 .taken), prime-high (start r .pre .0))
 
 add-requires : tie.Need-add-requires Inv-loop μ-loop
 add-requires c κs =
-    let loop = c .before .before .before .before .before .before .before .loop in
-    let pre = c .before .before .before .before .before .before .before .before .before .before .before .before .before .before .pre in
-    let reciprocal = c .before .before .before .before .before .before .before .before .before .reciprocal in
     let r = c .before .before .before .before .before .before in
-    ((loop .inv .size, to-inside r, from-inside r), (modulus (pre .0), (reciprocal .ensures, facts r .weight (c .if2 .taken), loop .inv .residues)))
+    let inv = r .before .loop .inv in
+    ((inv .size, to-inside r, from-inside r), (modulus (start r .pre .0), (r .before .before .before .reciprocal .ensures, facts r .weight (c .if2 .taken), inv .residues)))
 
 loop-less-2 : tie.Need-loop-less-2 Inv-loop μ-loop
 loop-less-2 c = omega arith
 
 loop-again-2 : tie.Need-loop-again-2 Inv-loop μ-loop
 loop-again-2 c =
-    let loop = c .before .before .before .before .before .before .before .before .loop in
     let r = c .before .before .before .before .before .before .before in
-    running-add _ _ _ _ (loop .inv) (c .before .before .before .before .before .before .before .loop-test .taken) (to-inside r) _ (c .add .ensures) (positive r) (c .before .if2 .taken)
+    running-add _ _ _ _ (r .before .loop .inv) (r .loop-test .taken) (to-inside r) _ (c .add .ensures) (positive r) (c .before .if2 .taken)
 
 cast-boot : tie.Need-cast-boot Inv-loop μ-loop
 cast-boot c =
-    let pre = c .before .before .before .before .before .before .before .before .before .before .before .before .before .before .pre in
     let r = c .before .before .before .before .before .before in
-    omega (arith, facts r .table (c .before .if1 .left) (c .if2 .left) .1, pre .0 .variable-limit)
+    omega (arith, facts r .table (c .before .if1 .left) (c .if2 .left) .1, start r .pre .0 .variable-limit)
 
 boot-requires : tie.Need-boot-requires Inv-loop μ-loop
 boot-requires c κs =
-    let loop = c .before .before .before .before .before .before .before .loop in
-    let pre = c .before .before .before .before .before .before .before .before .before .before .before .before .before .before .pre in
-    let inverse = c .before .before .before .before .before .before .before .before .before .before .inverse in
-    let args = c .before .before .before .before .before .before .before .before .before .before .before .before .before .before .args in
     let r = c .before .before .before .before .before .before in
-    ((loop .inv .size, to-inside r, from-inside r), (pre .0, (pre .1 .0 .0, (inverse .ensures ∙ small-inverse (args .plan .p), loop .inv .residues))))
+    let inv = r .before .loop .inv in
+    let pre = start r .pre in
+    let inverse = r .before .before .before .before .inverse in
+    ((inv .size, to-inside r, from-inside r), (pre .0, (pre .1 .0 .0, (inverse .ensures ∙ small-inverse (start r .args .plan .p), inv .residues))))
 
 add-bootstraps : tie.Need-add-bootstraps Inv-loop μ-loop
-add-bootstraps c =
-    let loop = c .before .before .before .before .before .before .before .before .loop in
-    omega (arith, running-count _ _ _ _ (loop .inv))
+add-bootstraps c = omega (arith, running-count _ _ _ _ (c .before .before .before .before .before .before .before .before .loop .inv))
 
 loop-less-3 : tie.Need-loop-less-3 Inv-loop μ-loop
 loop-less-3 c = omega arith
 
 loop-again-3 : tie.Need-loop-again-3 Inv-loop μ-loop
 loop-again-3 c =
-    let loop = c .before .before .before .before .before .before .before .before .loop in
-    let args = c .before .before .before .before .before .before .before .before .before .before .before .before .before .before .before .args in
-    let pre = c .before .before .before .before .before .before .before .before .before .before .before .before .before .before .before .pre in
     let r = c .before .before .before .before .before .before .before in
-    running-boot _ _ _ _ (loop .inv) (c .before .before .before .before .before .before .before .loop-test .taken) (to-inside r) _ (c .boot .ensures)
-    (table-small (args .plan) (args .tables .now) _ _ (positive r) (pre .1 .0 .1)) (facts r .table (c .before .before .if1 .left) (c .before .if2 .left) .0)
+    running-boot _ _ _ _ (r .before .loop .inv) (r .loop-test .taken) (to-inside r) _ (c .boot .ensures)
+    (table-small (start r .args .plan) (start r .args .tables .now) _ _ (positive r) (start r .pre .1 .0 .1)) (facts r .table (c .before .before .if1 .left) (c .before .if2 .left) .0)
 
 add-y : tie.Need-add-y Inv-loop μ-loop
 add-y c = omega arith
@@ -184,14 +157,12 @@ add-y-2 : tie.Need-add-y-2 Inv-loop μ-loop
 add-y-2 c = omega arith
 
 element-copy-out-t17 : tie.Need-element-copy-out-t17 Inv-loop μ-loop
-element-copy-out-t17 c =
-    let pre = c .before .before .before .before .before .before .before .before .before .pre in
-    omega (arith, c .before .before .loop .inv .size, pre .0 .variable-limit)
+element-copy-out-t17 c = omega (arith, c .before .before .loop .inv .size, c .before .before .before .before .before .before .before .before .before .pre .0 .variable-limit)
 
 returns : tie.Need-returns Inv-loop μ-loop
 returns c =
-    let loop = c .before .before .before .loop in
-    let r = running-all _ _ _ _ (loop .inv) (c .before .before .loop-test .left) in
+    let ended = c .before .before in
+    let r = running-all _ _ _ _ (ended .before .loop .inv) (ended .loop-test .left) in
     ap₂ (λ (y count : ℕ). gives (y ∷ count ∷ [])) (r .0) (r .1)
 
 pub run-steps-spec : {M : Type 1} → statement M

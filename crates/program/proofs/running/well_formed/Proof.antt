@@ -16,8 +16,11 @@ Inv-loop plan steps count i₀ i = (i ≤ length steps / 4) × (every (goodAt pl
 abbrev μ-loop : tie.MeasureT-loop
 μ-loop plan steps count i₀ i = length steps / 4 - i
 
+abbrev start : tie.At-loop Inv-loop μ-loop → tie.Start Inv-loop μ-loop
+start c = c .before .before .before
+
 returns : tie.Need-returns Inv-loop μ-loop
-returns c = sym (short (c .before .before .args .plan) (c .before .before .args .steps .now) (c .if1 .taken))
+returns c = sym (short _ _ (c .if1 .taken))
 
 loop-holds : tie.Need-loop-holds Inv-loop μ-loop
 loop-holds c = (omega arith, good-none _ _)
@@ -59,15 +62,13 @@ shared-slice-read-good-step-4 : tie.Need-shared-slice-read-good-step-4 Inv-loop 
 shared-slice-read-good-step-4 c = omega arith
 
 good-step-requires : tie.Need-good-step-requires Inv-loop μ-loop
-good-step-requires c κs =
-    let pre = c .before .before .before .before .before .before .before .before .pre in
-    pre
+good-step-requires c κs = start (c .before .before .before .before .before) .pre
 
 returns-2 : tie.Need-returns-2 Inv-loop μ-loop
 returns-2 c =
-    let args = c .before .before .before .before .before .before .before .before .before .before .args in
-    let loop = c .before .before .before .before .before .before .before .loop in
-    sym (bad (args .plan) (args .steps .now) (loop .i) (c .before .before .before .before .before .before .loop-test .taken) (sym (c .before .good-step .ensures) ∙ not-true _ (c .if2 .taken)))
+    let inside = c .before .before .before .before .before .before in
+    let s = start (inside .before) .args in
+    sym (bad (s .plan) (s .steps .now) (inside .before .loop .i) (inside .loop-test .taken) (sym (c .before .good-step .ensures) ∙ not-true _ (c .if2 .taken)))
 
 add-i : tie.Need-add-i Inv-loop μ-loop
 add-i c = omega arith
@@ -77,14 +78,15 @@ loop-less c = omega arith
 
 loop-again : tie.Need-loop-again Inv-loop μ-loop
 loop-again c =
-    let args = c .before .before .before .before .before .before .before .before .before .before .args in
-    let loop = c .before .before .before .before .before .before .before .loop in
-    (omega arith, good-next (args .plan) (args .steps .now) (loop .i) (loop .inv .1) (sym (c .before .good-step .ensures) ∙ not-false _ (c .if2 .left)))
+    let r = c .before .before .before .before .before .before .before in
+    let s = start r .args in
+    (omega arith, good-next (s .plan) (s .steps .now) (r .loop .i) (r .loop .inv .1) (sym (c .before .good-step .ensures) ∙ not-false _ (c .if2 .left)))
 
 returns-3 : tie.Need-returns-3 Inv-loop μ-loop
 returns-3 c =
-    let args = c .before .before .before .before .args in
-    sym (good (args .plan) (args .steps .now) (c .before .loop .i) (c .before .before .if1 .left) (c .before .loop .inv .0) (c .loop-test .left) (c .before .loop .inv .1))
+    let r = c .before in
+    let s = start r .args in
+    sym (good (s .plan) (s .steps .now) (r .loop .i) (r .before .if1 .left) (r .loop .inv .0) (c .loop-test .left) (r .loop .inv .1))
 
 pub well-formed-spec : {M : Type 1} → statement M
 well-formed-spec =

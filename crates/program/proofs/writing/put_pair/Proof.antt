@@ -1,7 +1,6 @@
 -- `program::writing::put_pair` meets its contract: three steps one behind the other (`Placement`). Assumes nothing.
-use mathlib.Core.List.{_++_}
 use Rattle.program.specs.Layout.{clear, add}
-use Rattle.program.proofs.Placement.{wrote-then, wrote-room}
+use Rattle.program.proofs.Placement.{wrote-3}
 use borrow.Author.Needs.{needs}
 use Rattle.program.proofs.writing.put_pair.Statement.{statement}
 use Rattle.program.proofs.writing.put_pair.Tie as tie
@@ -20,14 +19,12 @@ same-length c = search needs
 
 returns : tie.Need-returns
 returns c =
-    let args = c .before .before .before .before .before .before .before .before .before .before .before .before .before .args in
-    let pre = c .before .before .before .before .before .before .before .before .before .before .before .before .before .pre in
-    let put-step = c .before .before .before .before .before .before .before .before .before .before .put-step in
-    let put-step2 = c .before .before .before .before .before .before .put-step2 in
-    let to = args .to in
-    let rest = add to (args .u) 1 ++ add to (args .v) (args .by) in
-    wrote-then (clear to) rest (pre) (put-step .ensures)
-    (wrote-then (add to (args .u) 1) (add to (args .v) (args .by)) (wrote-room (clear to) rest (pre) (put-step .ensures)) (put-step2 .ensures) (c .before .before .put-step3 .ensures))
+    let third = c .before .before in
+    let second = third .before .before .before .before in
+    let first = second .before .before .before .before in
+    let s = first .before .before .before in
+    let a = s .args in
+    wrote-3 (clear (a .to)) (add (a .to) (a .u) 1) (add (a .to) (a .v) (a .by)) (s .pre) (first .put-step .ensures) (second .put-step2 .ensures) (third .put-step3 .ensures)
 
 pub put-pair-spec : {M : Type 1} → statement M
 put-pair-spec =

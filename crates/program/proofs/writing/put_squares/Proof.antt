@@ -45,18 +45,18 @@ same-length c = search needs
 
 returns : tie.Need-returns
 returns c =
-    let args = c .before .before .before .before .before .before .before .before .before .before .before .before .before .before .before .before .before .before .before .before .before .before .before .before .before .args in
-    let pre = c .before .before .before .before .before .before .before .before .before .before .before .before .before .before .before .before .before .before .before .before .before .before .before .before .before .pre in
-    let put-pair = c .before .before .before .before .before .before .before .before .before .before .before .before .before .before .before .before .before .before .before .before .before .before .put-pair in
-    let put-pair2 = c .before .before .before .before .before .before .before .before .before .before .before .before .before .before .before .before .before .before .put-pair2 in
-    let put-step = c .before .before .before .before .before .before .before .before .before .before .before .before .before .before .put-step in
-    let put-step2 = c .before .before .before .before .before .before .before .before .before .before .put-step2 in
-    let put-step3 = c .before .before .before .before .before .before .put-step3 in
-    let u = args .u in
-    let m = args .table in
-    wrote-6 (clear (u + 2) ++ (add (u + 2) u 1 ++ add (u + 2) (u + 1) 1)) (clear (u + 3) ++ (add (u + 3) u 1 ++ add (u + 3) (u + 1) (args .minus)))
-    (boot (u + 2) m) (boot (u + 3) (m + 1)) (add (u + 4) (u + 2) 1) (add (u + 4) (u + 3) 1) (pre .1)
-    (put-pair .ensures) (put-pair2 .ensures) (put-step .ensures) (put-step2 .ensures) (put-step3 .ensures) (c .before .before .put-step4 .ensures)
+    let p6 = c .before .before in
+    let p5 = p6 .before .before .before .before in
+    let p4 = p5 .before .before .before .before in
+    let p3 = p4 .before .before .before .before in
+    let p2 = p3 .before .before .before .before in
+    let p1 = p2 .before .before .before .before in
+    let s = p1 .before .before .before in
+    let u = s .args .u in
+    let m = s .args .table in
+    wrote-6 (clear (u + 2) ++ (add (u + 2) u 1 ++ add (u + 2) (u + 1) 1)) (clear (u + 3) ++ (add (u + 3) u 1 ++ add (u + 3) (u + 1) (s .args .minus)))
+    (boot (u + 2) m) (boot (u + 3) (m + 1)) (add (u + 4) (u + 2) 1) (add (u + 4) (u + 3) 1) (s .pre .1)
+    (p1 .put-pair .ensures) (p2 .put-pair2 .ensures) (p3 .put-step .ensures) (p4 .put-step2 .ensures) (p5 .put-step3 .ensures) (p6 .put-step4 .ensures)
 
 pub put-squares-spec : {M : Type 1} → statement M
 put-squares-spec =

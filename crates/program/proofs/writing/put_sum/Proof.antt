@@ -18,10 +18,10 @@ same-length c = search needs
 
 returns : tie.Need-returns
 returns c =
-    let args = c .before .before .before .before .before .before .before .before .before .before .args in
-    let pre = c .before .before .before .before .before .before .before .before .before .before .pre in
-    let put-step = c .before .before .before .before .before .before .put-step in
-    wrote-then (clear (args .to)) (adds (args .to) (at (args .weights .now)) (length (args .weights .now))) (pre .1) (put-step .ensures) (c .before .before .put-adds .ensures)
+    let first = c .before .before .before .before .before .before in
+    let s = first .before .before .before .before in
+    let ws = s .args .weights .now in
+    wrote-then (clear (s .args .to)) (adds (s .args .to) (at ws) (length ws)) (s .pre .1) (first .put-step .ensures) (c .before .before .put-adds .ensures)
 
 pub put-sum-spec : {M : Type 1} → statement M
 put-sum-spec = tie.close (tie.spec put-step-requires put-adds-requires same-length returns)
