@@ -1,6 +1,6 @@
 -- Lines: numbers, each with the byte behind it, one after the other.
 --     ended n b                            the digits of n and the byte b
---     put-digit, put-front, put-last       the digits, as the code writes them
+--     put-digit, put-more                  the digits, as the code writes them
 --     line-two, line-three, line-four      a line of two, three or four numbers, as the code writes it
 --     ended-most, ended-small              the length, of any number and of one below 1,000
 --     line-small                           a line of four numbers below 1,000 has at most 16 bytes
@@ -20,7 +20,7 @@ use Rattle.lists.proofs.Placing.{placed-set}
 use Rattle.listing.specs.Decimal.{decimal, spaced, line}
 use Rattle.listing.specs.Printed.{stepLine}
 use Rattle.listing.proofs.Digits.{decimal-one, decimal-next, decimal-most, decimal-tenth, decimal-small}
-use Rattle.listing.proofs.Puts.{Put, put-first, put-byte, put-next, put-length, left-none}
+use Rattle.listing.proofs.Puts.{Put, put-as, put-first, put-byte, put-next, put-length, left-none}
 
 abbrev pub ended : ℕ → ℕ → List ℕ
 ended n b = decimal n ++ (b ∷ [])
@@ -34,19 +34,15 @@ ended-small n b h = rw length-append (omega (arith, decimal-small n h))
 -- the digits as the code writes them: a number below 10, and the last digit of any other behind those of its tenth part
 pub put-digit : (e : List ℕ) (k n : ℕ) → n < 10 → k < length e → Put e k (decimal n) (set e k (48 + n)) (k + 1)
 put-digit e k n h room =
-    subst (λ (xs : List ℕ). Put e k xs (set e k (48 + n)) (k + 1)) (sym (decimal-one n h))
-    (put-first e k ((48 + n) ∷ []) (placed-set e k (48 + n) room) refl (omega arith))
+    put-as (sym (decimal-one n h)) (put-first e k ((48 + n) ∷ []) (placed-set e k (48 + n) room) refl (omega arith))
 
-pub put-front : (e : List ℕ) (k n : ℕ) {out : List ℕ} {next : ℕ} → n < 2 ^ 64 → k + 20 ≤ length e → out ≡ placed e k (decimal (n / 10)) → next ≡ k + length (decimal (n / 10))
-    → Put e k (decimal (n / 10)) out next × (next < length e)
-put-front e k n fits room h hn =
+pub put-more : (e : List ℕ) (k n : ℕ) {out : List ℕ} {next : ℕ} → 10 ≤ n → n < 2 ^ 64 → k + 20 ≤ length e → out ≡ placed e k (decimal (n / 10)) → next ≡ k + length (decimal (n / 10))
+    → (next < length out) × Put e k (decimal n) (set out next (48 + n % 10)) (next + 1)
+put-more e k n {out} {next} h fits room list ends =
     let l = decimal-tenth n fits in
-    (put-first e k (decimal (n / 10)) h hn (omega arith), omega arith)
-
-pub put-last : {e out : List ℕ} {k next : ℕ} (n : ℕ) → 10 ≤ n → n < 2 ^ 64 → Put e k (decimal (n / 10)) out next → next < length e
-    → Put e k (decimal n) (set out next (48 + n % 10)) (next + 1)
-put-last {e} {out} {k} {next} n h fits p room =
-    subst (λ (xs : List ℕ). Put e k xs (set out next (48 + n % 10)) (next + 1)) (sym (decimal-next n h fits)) (put-byte (48 + n % 10) p room)
+    let front : Put e k (decimal (n / 10)) out next = put-first e k (decimal (n / 10)) list ends (omega arith) in
+    let inside : next < length e = omega arith in
+    (rw (put-length front) inside, put-as (sym (decimal-next n h fits)) (put-byte (48 + n % 10) front inside))
 
 pub line-two : (a b : ℕ) → ended a 32 ++ ended b 10 ≡ line (a ∷ b ∷ [])
 unfolding line spaced

@@ -48,9 +48,10 @@ same-length c = search needs
 
 returns : tie.Need-returns
 returns c =
-    let put-number4 = c .before .before .put-number4 in
-    let s = c .before .before .before .before .before .before .before .before .before .before .before .before .before .before .before .before .before in
-    let l = left-next 4 17 (ended (s .args .by) 10) (third (c .before .before .before .before .before .before)) (ended-small (s .args .by) 10 (s .pre .1 .3)) (omega arith) (put-number4 .ensures .0) (put-number4 .ensures .1) in
+    let fourth = c .before .before in
+    let three = fourth .before .before .before .before in
+    let s = start (three .before .before .before .before .before .before .before .before) in
+    let l = left-next 4 17 (ended (s .args .by) 10) (third three) (ended-small (s .args .by) 10 (s .pre .1 .3)) (omega arith) (fourth .put-number4 .ensures .0) (fourth .put-number4 .ensures .1) in
     let r = put-as (line-four (s .args .kind) (s .args .to) (s .args .from) (s .args .by)) (l .put) in
     (r .list, r .ends)
 

@@ -4,6 +4,7 @@ use mathlib.Core.Path.{_≡_, sym, ap, _∙_}
 use Prim.Native.Nat.{ℕ, _+_, _-_, _≤_}
 use native.Mathlib.Nat.{le-antisymm}
 use native.Mathlib.Omega.{arith}
+use lib.ListN.{length}
 use Rattle.lists.specs.Places.{largest}
 use Rattle.lists.proofs.Sums.{sum-zero, sum-next}
 use Rattle.lists.proofs.Maxima.{largest-none, largest-turn}
@@ -21,6 +22,15 @@ Inv-loop plan weights n top₀ begin₀ k₀ top begin k = (k ≤ plan .m) × (b
 abbrev μ-loop : tie.MeasureT-loop
 μ-loop plan weights n top₀ begin₀ k₀ top begin k = plan .m - k
 
+abbrev start : tie.At-loop Inv-loop μ-loop → tie.Start Inv-loop μ-loop
+start c = c .before .before
+
+-- link k's weights lie within
+room : (c : tie.Then1 Inv-loop μ-loop) → let r = c .before .before in r .loop .begin + (start r .args .plan .n + r .loop .k) ≤ length (start r .args .weights .now)
+room c =
+    let r = c .before .before in
+    link-room (start r .args .plan) (start r .args .weights .now) (r .loop .begin) (r .loop .k) (start r .pre .1) (r .loop .inv .1) (c .if1 .taken)
+
 loop-holds : tie.Need-loop-holds Inv-loop μ-loop
 loop-holds c = (omega arith, sym (sum-zero _), largest-none _)
 
@@ -28,9 +38,7 @@ add-end : tie.Need-add-end Inv-loop μ-loop
 add-end c = omega arith
 
 add-end-2 : tie.Need-add-end-2 Inv-loop μ-loop
-add-end-2 c =
-    let s = c .before .before .before .before in
-    omega (arith, link-room (s .args .plan) (s .args .weights .now) (c .before .before .loop .begin) (c .before .before .loop .k) (s .pre .1) (c .before .before .loop .inv .1) (c .if1 .taken))
+add-end-2 c = omega (arith, room c)
 
 sub-squares : tie.Need-sub-squares Inv-loop μ-loop
 sub-squares c = omega arith
@@ -39,16 +47,13 @@ part-squares-start : tie.Need-part-squares-start Inv-loop μ-loop
 part-squares-start c = omega arith
 
 part-squares-end : tie.Need-part-squares-end Inv-loop μ-loop
-part-squares-end c =
-    let s = c .before .before .before .before in
-    link-room (s .args .plan) (s .args .weights .now) (c .before .before .loop .begin) (c .before .before .loop .k) (s .pre .1) (c .before .before .loop .inv .1) (c .if1 .taken)
+part-squares-end c = room c
 
 squares-requires : tie.Need-squares-requires Inv-loop μ-loop
 squares-requires c κs =
-    let loop = c .before .before .before .loop in
-    let s = c .before .before .before .before .before in
-    let e = cut-length (s .args .weights .now) (loop .begin) (s .args .plan .n + loop .k) (link-room (s .args .plan) (s .args .weights .now) (loop .begin) (loop .k) (s .pre .1) (loop .inv .1) (c .before .if1 .taken)) in
-    omega (arith, e, s .pre .0 .variable-limit, c .before .if1 .taken)
+    let r = c .before .before .before in
+    let s = start r in
+    omega (arith, cut-length (s .args .weights .now) (r .loop .begin) (s .args .plan .n + r .loop .k) (room (c .before)), s .pre .0 .variable-limit, c .before .if1 .taken)
 
 larger-requires : tie.Need-larger-requires Inv-loop μ-loop
 larger-requires c κs = tt
@@ -61,19 +66,21 @@ loop-less c = omega arith
 
 loop-again : tie.Need-loop-again Inv-loop μ-loop
 loop-again c =
-    let loop = c .before .before .before .before .before .loop in
-    let if1 = c .before .before .before .if1 in
-    let s = c .before .before .before .before .before .before .before in
-    let room = link-room (s .args .plan) (s .args .weights .now) (loop .begin) (loop .k) (s .pre .1) (loop .inv .1) (if1 .taken) in (
+    let inside = c .before .before .before in
+    let r = inside .before .before in
+    let ws = start r .args .weights .now in
+    let n = start r .args .plan .n in
+    let at-begin = r .loop .inv .1 in (
       omega arith,
-      ap (λ (a : ℕ). a + (s .args .plan .n + loop .k)) (loop .inv .1) ∙ sym (sum-next (λ i. s .args .plan .n + i) (loop .k)),
-      largest-turn _ _ _ _ _ (loop .inv .2) (c .before .squares .ensures ∙ part-squares (s .args .weights .now) (loop .begin) (s .args .plan .n + loop .k) room ∙ ap (λ (a : ℕ). specs.squares (s .args .weights .now) a (s .args .plan .n + loop .k)) (loop .inv .1)) (c .larger .ensures),
+      ap (λ (a : ℕ). a + (n + r .loop .k)) at-begin ∙ sym (sum-next (λ i. n + i) (r .loop .k)),
+      largest-turn _ _ _ _ _ (r .loop .inv .2) (c .before .squares .ensures ∙ part-squares ws _ _ (room inside) ∙ ap (λ (a : ℕ). specs.squares ws a (n + r .loop .k)) at-begin) (c .larger .ensures),
     )
 
 returns : tie.Need-returns Inv-loop μ-loop
 returns c =
-    let s = c .before .before .before .before in
-    c .before .before .loop .inv .2 ∙ ap (largest (λ i. specs.squares (s .args .weights .now) (linkStart (s .args .plan) i) (s .args .plan .n + i))) (le-antisymm (c .before .before .loop .inv .0) (c .if1 .left))
+    let r = c .before .before in
+    let P = start r .args .plan in
+    r .loop .inv .2 ∙ ap (largest (λ i. specs.squares (start r .args .weights .now) (linkStart P i) (P .n + i))) (le-antisymm (r .loop .inv .0) (c .if1 .left))
 
 pub links-norm-spec : {M : Type 1} → statement M
 links-norm-spec =

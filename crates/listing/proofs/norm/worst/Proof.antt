@@ -7,6 +7,9 @@ use borrow.Author.Needs.{needs}
 use Rattle.listing.proofs.norm.worst.Statement.{statement}
 use Rattle.listing.proofs.norm.worst.Tie as tie
 
+abbrev start : tie.After-variables → tie.Start
+start c = c .before .before .before .before
+
 variables-requires : tie.Need-variables-requires
 variables-requires c κs = search needs
 
@@ -15,7 +18,7 @@ links-norm-requires c κs = search needs
 
 rows-norm-requires : tie.Need-rows-norm-requires
 rows-norm-requires c κs =
-    let pre = c .before .before .before .before .before .pre in
+    let pre = start (c .before) .pre in
     (omega (arith, c .before .variables .ensures, pre .0 .variable-limit), rw (c .before .variables .ensures) (le-of-eq (sym (pre .1 .1 .0))))
 
 add-rows-norm : tie.Need-add-rows-norm
@@ -23,9 +26,9 @@ add-rows-norm c = search needs
 
 rows-norm-requires-2 : tie.Need-rows-norm-requires-2
 rows-norm-requires-2 c κs =
-    let variables = c .before .before .before .variables in
-    let pre = c .before .before .before .before .before .before .before .pre in
-    (omega (arith, variables .ensures, pre .0 .variable-limit), rw (variables .ensures) (le-of-eq (sym (pre .1 .1 .1))))
+    let r = c .before .before .before in
+    let pre = start r .pre in
+    (omega (arith, r .variables .ensures, pre .0 .variable-limit), rw (r .variables .ensures) (le-of-eq (sym (pre .1 .1 .1))))
 
 larger-requires : tie.Need-larger-requires
 larger-requires c κs = search needs
@@ -35,11 +38,11 @@ larger-requires-2 c κs = search needs
 
 returns : tie.Need-returns
 returns c =
-    let variables = c .before .before .before .before .before .before .variables in
-    let links-norm = c .before .before .before .before .before .links-norm in
-    let rows-norm = c .before .before .before .before .rows-norm in
-    let s = c .before .before .before .before .before .before .before .before .before .before in
-    norm-of (s .args .plan) (s .args .weights .now) (s .args .d .now) (s .args .beta .now) (variables .ensures) (links-norm .ensures) (rows-norm .ensures) (c .before .before .rows-norm2 .ensures) (c .before .larger .ensures) (c .larger2 .ensures)
+    let products = c .before .before .before .before in
+    let links = products .before in
+    let r = links .before in
+    let s = start r .args in
+    norm-of (s .plan) (s .weights .now) (s .d .now) (s .beta .now) (r .variables .ensures) (links .links-norm .ensures) (products .rows-norm .ensures) (c .before .before .rows-norm2 .ensures) (c .before .larger .ensures) (c .larger2 .ensures)
 
 pub worst-spec : {M : Type 1} → statement M
 worst-spec =

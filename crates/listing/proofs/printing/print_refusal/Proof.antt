@@ -24,10 +24,11 @@ same-length c = search needs
 returns : tie.Need-returns
 unfolding refused
 returns c =
-    let put-bytes = c .before .before .before .before .before .before .put-bytes in
-    let s = c .before .before .before .before .before .before .before .before .before .before in
-    let l1 = left-next 13 42 refusalNames (left-none 64 (s .args .out .now) 0 (s .pre)) (omega arith) (omega arith) (put-bytes .ensures .0) (put-bytes .ensures .1) in
-    let l2 = left-next 42 0 (line (s .args .cause ∷ s .args .line ∷ [])) l1 (two-most (s .args .cause) (s .args .line)) (omega arith) (c .before .before .put-pair .ensures .0) (c .before .before .put-pair .ensures .1) in
+    let second = c .before .before in
+    let first = second .before .before .before .before in
+    let s = first .before .before .before .before in
+    let l1 = left-next 13 42 refusalNames (left-none 64 (s .args .out .now) 0 (s .pre)) (omega arith) (omega arith) (first .put-bytes .ensures .0) (first .put-bytes .ensures .1) in
+    let l2 = left-next 42 0 (line (s .args .cause ∷ s .args .line ∷ [])) l1 (two-most (s .args .cause) (s .args .line)) (omega arith) (second .put-pair .ensures .0) (second .put-pair .ensures .1) in
     (l2 .put .list, omega (arith, l2 .put .ends))
 
 pub print-refusal-spec : {M : Type 1} → statement M

@@ -16,8 +16,16 @@ Inv-loop steps out₀ at count next₀ i₀ out next i = (i ≤ length steps / 4
 abbrev μ-loop : tie.MeasureT-loop
 μ-loop steps out₀ at count next₀ i₀ out next i = length steps / 4 - i
 
+abbrev start : tie.At-loop Inv-loop μ-loop → tie.Start Inv-loop μ-loop
+start c = c .before .before .before
+
+-- all lines are written where the loop ends
+all : (c : tie.After-loop Inv-loop μ-loop) → let r = c .before in
+    let s = start r .args in Put (s .out .now) (s .at) (joined (stepLine (s .steps .now)) (length (s .steps .now) / 4)) (r .loop .out) (r .loop .next)
+all c = let r = c .before in lines-done (start r .args .steps .now) (start r .pre .0) _ (r .loop .inv .1) (r .loop .inv .0) (c .loop-test .left)
+
 loop-holds : tie.Need-loop-holds Inv-loop μ-loop
-loop-holds c = (omega arith, lines-none (c .before .before .args .steps .now) (c .before .before .pre .0) (c .before .before .args .out .now) (c .before .before .args .at) (omega (arith, c .before .before .pre .1)))
+loop-holds c = let s = c .before .before in (omega arith, lines-none (s .args .steps .now) (s .pre .0) _ _ (omega (arith, s .pre .1)))
 
 mul-k : tie.Need-mul-k Inv-loop μ-loop
 mul-k c = omega arith
@@ -29,10 +37,7 @@ shared-slice-read-put-step : tie.Need-shared-slice-read-put-step Inv-loop μ-loo
 shared-slice-read-put-step c = omega arith
 
 cast-put-step : tie.Need-cast-put-step Inv-loop μ-loop
-cast-put-step c =
-    let pre = c .before .before .before .before .before .before .pre in
-    let loop = c .before .before .before .loop in
-    omega (arith, pre .0 (4 * loop .i))
+cast-put-step c = let r = c .before .before .before in omega (arith, start r .pre .0 (4 * r .loop .i))
 
 add-put-step : tie.Need-add-put-step Inv-loop μ-loop
 add-put-step c = omega arith
@@ -44,10 +49,7 @@ shared-slice-read-put-step-2 : tie.Need-shared-slice-read-put-step-2 Inv-loop μ
 shared-slice-read-put-step-2 c = omega arith
 
 cast-put-step-2 : tie.Need-cast-put-step-2 Inv-loop μ-loop
-cast-put-step-2 c =
-    let pre = c .before .before .before .before .before .before .before .pre in
-    let loop = c .before .before .before .before .loop in
-    omega (arith, pre .0 (4 * loop .i + 1))
+cast-put-step-2 c = let r = c .before .before .before .before in omega (arith, start r .pre .0 (4 * r .loop .i + 1))
 
 add-put-step-2 : tie.Need-add-put-step-2 Inv-loop μ-loop
 add-put-step-2 c = omega arith
@@ -59,10 +61,7 @@ shared-slice-read-put-step-3 : tie.Need-shared-slice-read-put-step-3 Inv-loop μ
 shared-slice-read-put-step-3 c = omega arith
 
 cast-put-step-3 : tie.Need-cast-put-step-3 Inv-loop μ-loop
-cast-put-step-3 c =
-    let pre = c .before .before .before .before .before .before .before .before .pre in
-    let loop = c .before .before .before .before .before .loop in
-    omega (arith, pre .0 (4 * loop .i + 2))
+cast-put-step-3 c = let r = c .before .before .before .before .before in omega (arith, start r .pre .0 (4 * r .loop .i + 2))
 
 add-put-step-3 : tie.Need-add-put-step-3 Inv-loop μ-loop
 add-put-step-3 c = omega arith
@@ -74,16 +73,16 @@ shared-slice-read-put-step-4 : tie.Need-shared-slice-read-put-step-4 Inv-loop μ
 shared-slice-read-put-step-4 c = omega arith
 
 cast-put-step-4 : tie.Need-cast-put-step-4 Inv-loop μ-loop
-cast-put-step-4 c =
-    let pre = c .before .before .before .before .before .before .before .before .before .pre in
-    let loop = c .before .before .before .before .before .before .loop in
-    omega (arith, pre .0 (4 * loop .i + 3))
+cast-put-step-4 c = let r = c .before .before .before .before .before .before in omega (arith, start r .pre .0 (4 * r .loop .i + 3))
 
 put-step-requires : tie.Need-put-step-requires Inv-loop μ-loop
 put-step-requires c κs =
-    let loop = c .before .before .before .before .before .before .loop in
-    let s = c .before .before .before .before .before .before .before .before .before in
-    (lines-left (s .args .steps .now) (s .pre .0) (loop .i) (loop .inv .1) (c .before .before .before .before .before .loop-test .taken) (s .pre .1), (s .pre .0 (4 * loop .i), s .pre .0 (4 * loop .i + 1), s .pre .0 (4 * loop .i + 2), s .pre .0 (4 * loop .i + 3)))
+    let inside = c .before .before .before .before .before in
+    let r = inside .before in
+    let s = start r in
+    let pre = s .pre in
+    let i = r .loop .i in
+    (lines-left (s .args .steps .now) (pre .0) i (r .loop .inv .1) (inside .loop-test .taken) (pre .1), (pre .0 (4 * i), pre .0 (4 * i + 1), pre .0 (4 * i + 2), pre .0 (4 * i + 3)))
 
 add-i : tie.Need-add-i Inv-loop μ-loop
 add-i c = omega arith
@@ -93,19 +92,17 @@ loop-less c = omega arith
 
 loop-again : tie.Need-loop-again Inv-loop μ-loop
 loop-again c =
-    let loop = c .before .before .before .before .before .before .before .before .before .loop in
-    let s = c .before .before .before .before .before .before .before .before .before .before .before .before in
-    (omega arith, lines-turn (s .args .steps .now) (s .pre .0) (loop .i) (loop .inv .1) (c .before .before .before .before .before .before .before .before .loop-test .taken) (s .pre .1) (c .before .before .put-step .ensures .0) (c .before .before .put-step .ensures .1))
+    let inside = c .before .before .before .before .before .before .before .before in
+    let r = inside .before in
+    let pre = start r .pre in
+    let put-step = c .before .before .put-step in
+    (omega arith, lines-turn (start r .args .steps .now) (pre .0) (r .loop .i) (r .loop .inv .1) (inside .loop-test .taken) (pre .1) (put-step .ensures .0) (put-step .ensures .1))
 
 same-length : tie.Need-same-length Inv-loop μ-loop
 same-length c = put-length (c .before .loop .inv .1)
 
 returns : tie.Need-returns Inv-loop μ-loop
-returns c =
-    let args = c .before .before .before .before .args in
-    let pre = c .before .before .before .before .pre in
-    let r = lines-done (args .steps .now) (pre .0) (c .before .loop .i) (c .before .loop .inv .1) (c .before .loop .inv .0) (c .loop-test .left) in
-    (r .list, r .ends)
+returns c = (all c .list, all c .ends)
 
 pub put-steps-spec : {M : Type 1} → statement M
 put-steps-spec =
