@@ -15,7 +15,7 @@ use native.Mathlib.Omega.{arith}
 use lib.ListN.{length, length-append, List·getD-append}
 use lib.Seq.{getD-append-seam}
 use borrow.Author.Tests.{eq-eqb, ne-eqb, lt-ltb, le-ltb}
-use Rattle.lists.specs.Places.{sum, tab, joined, at}
+use Rattle.lists.specs.Places.{sum, joined, at}
 use Rattle.lists.proofs.Sums.{sum-zero, sum-suc, sum-ext}
 use Rattle.lists.proofs.Tabs.{tab-length}
 use Rattle.lists.proofs.Parts.{at-past}
@@ -23,8 +23,8 @@ use Rattle.field.specs.Residues.{square, minusSquare}
 use Rattle.field.proofs.Modular.{cong-add, cong-mul}
 use Rattle.field.proofs.Products.{product}
 use Rattle.plan.specs.Numbers.{variables, Within}
-use Rattle.plan.specs.Parts.{linkStart}
-use Rattle.plan.specs.Rows.{digit, link, chain, values}
+use Rattle.plan.specs.Parts.{Given, linkStart}
+use Rattle.plan.specs.Rows.{digit, digits, link, chain, values}
 use Rattle.plan.specs.Equation.{equation1}
 use Rattle.plan.specs.declared.numbers.Plan.{Plan}
 use Rattle.plan.proofs.Bounds.{prime-low}
@@ -34,8 +34,8 @@ use Rattle.program.specs.Layout.{clear, adds, linkSteps, productSteps, l
 use Rattle.program.proofs.Pieces.{Goes, goes-then, goes-to, goes-joined, goes-registers}
 use Rattle.program.proofs.Effects.{assigned-same, assigned-other, assigned-twice, goes-clear, goes-add, goes-boot, goes-adds, goes-sum, goes-pair}
 
-pub digits-length : (P : Plan) (i : ℕ) → length (tab (P .n) (digit P i)) ≡ P .n
-digits-length P i = tab-length (P .n) (digit P i)
+pub digits-length : (G : Given) (i : ℕ) → length (digits G i) ≡ G .numbers .n
+digits-length G i = tab-length (G .numbers .n) (digit (G .numbers) i)
 
 -- the three kinds of tables
 pub table-link : (P : Plan) (T : List ℕ) (k z : ℕ) → k < P .m → tableAt P T k z ≡ at T (k * P .p + z)
@@ -71,7 +71,19 @@ added p s l r x z e =
     ∙ ap (λ (n : ℕ). n % p) (omega arith)
     ∙ cong-add p (s % p) s (x + z) (l * r) (mod-mod s p) (e ∙ cong-mul p (l % p) l (r % p) r (mod-mod l p) (mod-mod r p))
 
-module _ (P : Plan) (w T d β : List ℕ) (within : Within P) where
+module _ (G : Given) (β : List ℕ) (within : Within (G .numbers)) where
+  abbrev P : Plan
+  P = G .numbers
+
+  abbrev w : List ℕ
+  w = G .weights
+
+  abbrev T : List ℕ
+  T = G .tables
+
+  abbrev d : List ℕ
+  d = G .products
+
   positive : 0 < P .p
   positive = omega (arith, prime-low within)
 
@@ -89,13 +101,13 @@ module _ (P : Plan) (w T d β : List ℕ) (within : Within P) where
       total = sum (λ j. at w (linkStart P k + j) * at xs j) (P .n + k) % P .p
 
   module _ (i : ℕ) where
-    goes-links : (h : Registers) × Goes P T (joined (linkSteps P w) (P .m)) (at (chain P w T i 0)) h × (h ≡ at (values P w T i))
+    goes-links : (h : Registers) × Goes P T (joined (linkSteps P w) (P .m)) (at (chain G i 0)) h × (h ≡ at (values G i))
     unfolding values chain
     goes-links =
-        goes-joined P T (linkSteps P w) (λ k g. g ≡ at (chain P w T i k)) (P .m) (at (chain P w T i 0)) refl
+        goes-joined P T (linkSteps P w) (λ k g. g ≡ at (chain G i k)) (P .m) (at (chain G i 0)) refl
         (λ k g l e. (
-          at (chain P w T i (suc k)),
-          subst (λ (f : Registers). Goes P T (linkSteps P w k) f (at (chain P w T i (suc k)))) (sym e) (goes-link (chain P w T i k) k l (chain-length P w T i k)),
+          at (chain G i (suc k)),
+          subst (λ (f : Registers). Goes P T (linkSteps P w k) f (at (chain G i (suc k)))) (sym e) (goes-link (chain G i k) k l (chain-length G i k)),
           refl,
         ))
 
@@ -253,10 +265,10 @@ module _ (P : Plan) (w T d β : List ℕ) (within : Within P) where
         )
 
   -- for the digits of an entry
-  pub demand2 : (i : ℕ) → output P T (layout P w d β) (tab (P .n) (digit P i)) ≡ equation1 P d β (values P w T i) % P .p
+  pub demand2 : (i : ℕ) → output (G .numbers) (G .tables) (layout (G .numbers) (G .weights) (G .products) β) (digits G i) ≡ equation1 (G .numbers) (G .products) β (values G i) % G .numbers .p
   unfolding output layout chain
   demand2 i =
       let first = goes-links i in
-      let rest = goes-rest (values P w T i) (values-length P w T i) in
+      let rest = goes-rest (values G i) (values-length G i) in
       let whole = goes-then P T (goes-to P T (first .1) (first .2)) (rest .1) in
-      ap (λ (f : Registers). f (variables P + 4)) (goes-registers P T (tab (P .n) (digit P i)) whole) ∙ rest .2
+      ap (λ (f : Registers). f (variables P + 4)) (goes-registers P T (digits G i) whole) ∙ rest .2

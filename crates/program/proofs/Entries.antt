@@ -14,7 +14,8 @@ use Rattle.lists.specs.Places.{tab, at}
 use Rattle.lists.proofs.Tabs.{is-tab}
 use Rattle.field.specs.Residues.{Residues}
 use Rattle.plan.specs.Numbers.{entries, Within}
-use Rattle.plan.specs.Rows.{digit, values}
+use Rattle.plan.specs.Parts.{Given}
+use Rattle.plan.specs.Rows.{digit, digits, values}
 use Rattle.plan.specs.Equation.{equation1}
 use Rattle.plan.specs.declared.numbers.Plan.{Plan}
 use Rattle.program.specs.Steps.{output}
@@ -56,8 +57,9 @@ module _ (P : Plan) (digits : List ℕ) (low : Residues (P .s) digits) where
     sym (is-tab digits (P .n) (digit P (number (P .n))) 0 size (λ j h. sym (number-digit j h))),
   )
 
-pub demand2-digits : (P : Plan) (w T d β digits : List ℕ) → Within P → length digits ≡ P .n → Residues (P .s) digits
-    → (i : ℕ) × (i < entries P) × (tab (P .n) (digit P i) ≡ digits) × (output P T (layout P w d β) digits ≡ equation1 P d β (values P w T i) % P .p)
-demand2-digits P w T d β digits within size low =
-    let e = entry-of P digits low size in
-    (e .0, e .1, e .2, ap (output P T (layout P w d β)) (sym (e .2)) ∙ demand2 P w T d β within (e .0))
+pub demand2-digits : (G : Given) (β xs : List ℕ) → Within (G .numbers) → length xs ≡ G .numbers .n → Residues (G .numbers .s) xs
+    → (i : ℕ) × (i < entries (G .numbers)) × (digits G i ≡ xs)
+    × (output (G .numbers) (G .tables) (layout (G .numbers) (G .weights) (G .products) β) xs ≡ equation1 (G .numbers) (G .products) β (values G i) % G .numbers .p)
+demand2-digits G β xs within size low =
+    let e = entry-of (G .numbers) xs low size in
+    (e .0, e .1, e .2, ap (output (G .numbers) (G .tables) (layout (G .numbers) (G .weights) (G .products) β)) (sym (e .2)) ∙ demand2 G β within (e .0))

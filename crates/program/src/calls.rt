@@ -1,7 +1,9 @@
 // The entry points: any numbers and lists are taken.
 ghost use mathlib.Core.Path.{_≡_};
+ghost use mathlib.Core.List.{[]};
 ghost use Rattle.plan.specs.Causes.{first};
 ghost use Rattle.plan.specs.Numbers.{Within, plan};
+ghost use Rattle.plan.specs.Parts.{lend, given};
 ghost use Rattle.program.specs.Calls as specs;
 use crate::running::Ran;
 use crate::running::run_steps;
@@ -9,25 +11,16 @@ use crate::running::well_formed;
 use crate::writing::put_program;
 use crate::writing::step_count;
 use plan::Checked;
+use plan::Own;
 use plan::Plan;
-use plan::part_refusal;
+use plan::admit;
 
-// A writing's refusal for a checked plan: 4, 5 or 10, else 0. `room` is the step slice's length.
-fn writing_refusal(
-    plan: Plan,
-    weights: &[u8],
-    tables: &[u8],
-    d: &[u8],
-    beta: &[u8],
-    room: usize,
-) -> u8
+// The writing's own refusal for an admitted plan: 5 for β or 10, else 0. `room` is the step slice's length. These causes read the plan's
+// numbers alone, so any parts serve to say them.
+fn writing_refusal(plan: Plan, beta: &[u8], room: usize) -> u8
     requires { ⌜ Within plan ⌝ }
-    ensures { λ r. ⌜ r ≡ first (specs.writingCauses plan (now (weights .entry)) (now (tables .entry)) (now (d .entry)) (now (beta .entry)) room) ⌝ }
+    ensures { λ r. ⌜ r ≡ first (specs.writeOwn (now (beta .entry)) room (lend plan [] [] [])) ⌝ }
 {
-    let k = part_refusal(plan, weights, tables, d, beta.len() == plan.columns());
-    if k != 0 {
-        return k;
-    }
     if !field::all_below(beta, plan.p) {
         return 5;
     }
@@ -50,11 +43,11 @@ pub fn check_writing(
     beta: &[u8],
     steps: &[u16],
 ) -> u8
-    ensures { λ r. ⌜ r ≡ first (specs.writeCauses p s n m t (now (weights .entry)) (now (tables .entry)) (now (d .entry)) (now (beta .entry)) (now (steps .entry))) ⌝ }
+    ensures { λ r. ⌜ r ≡ first (specs.writeCauses (given p s n m t (now (weights .entry)) (now (tables .entry)) (now (d .entry))) (now (beta .entry)) (now (steps .entry))) ⌝ }
 {
-    match Plan::new(p, s, n, m, t) {
+    match admit(p, s, n, m, t, weights, tables, d, Own::Row(beta.len())) {
         Checked::Refused(k) => k,
-        Checked::Accepted(plan) => writing_refusal(plan, weights, tables, d, beta, steps.len()),
+        Checked::Accepted(plan) => writing_refusal(plan, beta, steps.len()),
     }
 }
 
@@ -71,13 +64,13 @@ pub fn write_into(
     beta: &[u8],
     steps: &mut [u16],
 ) -> u8
-    ensures { λ r. ⌜ r ≡ first (specs.writeCauses p s n m t (now (weights .entry)) (now (tables .entry)) (now (d .entry)) (now (beta .entry)) (now (steps .entry))) ⌝ }
+    ensures { λ r. ⌜ r ≡ first (specs.writeCauses (given p s n m t (now (weights .entry)) (now (tables .entry)) (now (d .entry))) (now (beta .entry)) (now (steps .entry))) ⌝ }
     ensures { λ r. ⌜ now (steps .exit) ≡ specs.written r (plan p s n m t) (now (weights .entry)) (now (d .entry)) (now (beta .entry)) (now (steps .entry)) ⌝ }
 {
-    match Plan::new(p, s, n, m, t) {
+    match admit(p, s, n, m, t, weights, tables, d, Own::Row(beta.len())) {
         Checked::Refused(k) => k,
         Checked::Accepted(plan) => {
-            let k = writing_refusal(plan, weights, tables, d, beta, steps.len());
+            let k = writing_refusal(plan, beta, steps.len());
             if k != 0 {
                 return k;
             }
@@ -100,7 +93,7 @@ pub fn write<'a>(
     beta: &[u8],
     steps: &'a mut [u16],
 ) -> &'a mut [u16]
-    ensures { λ r. ⌜ now r ≡ specs.writerHands p s n m t (now (weights .entry)) (now (tables .entry)) (now (d .entry)) (now (beta .entry)) (now (steps .entry)) ⌝ }
+    ensures { λ r. ⌜ now r ≡ specs.writerHands (given p s n m t (now (weights .entry)) (now (tables .entry)) (now (d .entry))) (now (beta .entry)) (now (steps .entry)) ⌝ }
     ensures { λ r. ⌜ r .ptr ≡ steps .entry .ptr ⌝ }
 {
     if write_into(p, s, n, m, t, weights, tables, d, beta, steps) != 0 {
@@ -125,15 +118,11 @@ pub fn run(
     steps: &[u16],
     digits: &[u8],
 ) -> Ran
-    ensures { λ r. ⌜ specs.answerOf r ≡ specs.runAnswer p s n m t (now (weights .entry)) (now (tables .entry)) (now (d .entry)) (now (steps .entry)) (now (digits .entry)) ⌝ }
+    ensures { λ r. ⌜ specs.answerOf r ≡ specs.runAnswer (given p s n m t (now (weights .entry)) (now (tables .entry)) (now (d .entry))) (now (steps .entry)) (now (digits .entry)) ⌝ }
 {
-    match Plan::new(p, s, n, m, t) {
+    match admit(p, s, n, m, t, weights, tables, d, Own::Digits(digits.len())) {
         Checked::Refused(k) => Ran::Refused(k),
         Checked::Accepted(plan) => {
-            let k = part_refusal(plan, weights, tables, d, digits.len() == plan.n);
-            if k != 0 {
-                return Ran::Refused(k);
-            }
             if !well_formed(plan, steps) {
                 return Ran::Refused(11);
             }

@@ -4,14 +4,14 @@ use Prim.Native.Nat.{ℕ, _*_, _≤_}
 use native.Mathlib.Omega.{arith}
 use lib.ListN.{length}
 use lib.Seq.{length-take-le}
-use Rattle.plan.specs.Causes.{first}
-use Rattle.plan.specs.Numbers.{plan, Within}
-use Rattle.program.specs.Layout.{stepCount}
-use Rattle.program.specs.Calls.{writingCauses}
-use Rattle.plan.specs.declared.numbers.Plan.{Plan}
+use Rattle.plan.specs.Parts.{Given, given}
+use Rattle.plan.specs.declared.admission.Own.the-variants.{Row}
 use Rattle.plan.proofs.Bounds.{prime-high}
+use Rattle.plan.proofs.Admitting.{Unrefused, unrefused}
+use Rattle.program.specs.Layout.{stepCount}
+use Rattle.program.specs.Calls.{writeOwn}
 use Rattle.program.proofs.Shape.{step-limit}
-use Rattle.program.proofs.Answers.{writing-accepted, write-within, handed-refused, handed-done}
+use Rattle.program.proofs.Answers.{writing-fits, handed-refused, handed-done}
 use borrow.Author.Needs.{needs}
 use Rattle.program.proofs.calls.write.Statement.{statement}
 use Rattle.program.proofs.calls.write.Tie as tie
@@ -33,27 +33,27 @@ returns c =
 abbrev called : tie.Else1 → tie.After-write-into
 called c = c .before .before .before
 
-abbrev planned : tie.Else1 → Plan
-planned c = let a = start (called c) .args in plan (a .p) (a .s) (a .n) (a .m) (a .t)
+abbrev lent : tie.Else1 → Given
+lent c = let a = start (called c) .args in given (a .p) (a .s) (a .n) (a .m) (a .t) (a .weights .now) (a .tables .now) (a .d .now)
 
 -- nothing was refused
-fine : (c : tie.Else1) → let a = start (called c) .args in Within (planned c) × (first (writingCauses (planned c) (a .weights .now) (a .tables .now) (a .d .now) (a .beta .now) (length (a .steps .now))) ≡ 0)
-fine c = write-within _ _ _ _ _ _ _ _ _ _ (sym (called c .write-into .ensures .0) ∙ c .if1 .left)
+fine : (c : tie.Else1) → let a = start (called c) .args in Unrefused (lent c) (Row (length (a .beta .now))) (writeOwn (a .beta .now) (length (a .steps .now)))
+fine c = unrefused _ _ _ (sym (called c .write-into .ensures .0) ∙ c .if1 .left)
 
-fits : (c : tie.Else1) → 4 * stepCount (planned c) ≤ length (start (called c) .args .steps .now)
-fits c = let a = start (called c) .args in writing-accepted (planned c) (a .weights .now) (a .tables .now) (a .d .now) (a .beta .now) (length (a .steps .now)) (fine c .0) (fine c .1) .3
+fits : (c : tie.Else1) → 4 * stepCount (lent c .numbers) ≤ length (start (called c) .args .steps .now)
+fits c = let a = start (called c) .args in writing-fits (a .beta .now) (length (a .steps .now)) (lent c) (fine c .rest-none)
 
 cast-p : tie.Need-cast-p
-cast-p c = omega (arith, prime-high (fine c .0))
+cast-p c = omega (arith, prime-high (fine c .within))
 
 cast-s : tie.Need-cast-s
-cast-s c = omega (arith, prime-high (fine c .0), fine c .0 .radix-high)
+cast-s c = omega (arith, prime-high (fine c .within), fine c .within .radix-high)
 
 step-count-requires : tie.Need-step-count-requires
-step-count-requires c κs = fine c .0
+step-count-requires c κs = fine c .within
 
 mul-end : tie.Need-mul-end
-mul-end c = omega (arith, c .step-count .ensures, step-limit (planned (c .before)) (fine (c .before) .0))
+mul-end c = omega (arith, c .step-count .ensures, step-limit (lent (c .before) .numbers) (fine (c .before) .within))
 
 slice-aggregate-result-2 : tie.Need-slice-aggregate-result-2
 slice-aggregate-result-2 c =
