@@ -1,6 +1,5 @@
 -- The theory of `listing`: it knows the definitions of specs/ and no code.
 pub mod Norms
-pub mod Answers
 pub mod Digits
 pub mod Puts
 pub mod Lines

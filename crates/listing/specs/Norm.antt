@@ -2,20 +2,20 @@
 -- Stands on `plan`, and on `lists` for sums and the largest of numbers.
 --     squares ws from n     the sum of the squares of n places of ws, from place `from` on
 --     worst P w d β         the worst norm
---     normCauses            the causes of the call: 1 2 3 4 5
+--     normOwn β G           the call's own causes, where G is a plan as lent; `normCauses G β`: all that it can meet, 1 2 3 4 5
 --     answerOf a            01's number and values for each case of its answer: the norm, or the refusal's number
---     normAnswer            what `worst_norm` answers
+--     normAnswer G β        what `worst_norm` answers
 use mathlib.Core.Bool.{Bool, not}
 use mathlib.Core.List.{List, [], _∷_}
 use Prim.Native.Nat.{ℕ, _+_, _*_, max}
-use lib.Dec.{eqb}
 use lib.ListN.{length}
 use Rattle.lists.specs.Places.{sum, largest, at}
 use Rattle.field.specs.Rows.{allBelow}
 use Rattle.plan.specs.declared.numbers.Plan.{Plan}
 use Rattle.plan.specs.Causes.{first, Answer, gives, refuses, answer}
-use Rattle.plan.specs.Numbers.{variables, columns, plan}
-use Rattle.plan.specs.Parts.{linkStart, callCauses}
+use Rattle.plan.specs.Numbers.{variables}
+use Rattle.plan.specs.Parts.{Given, linkStart, callCauses}
+use Rattle.plan.specs.declared.admission.Own.the-variants.{Row}
 use Rattle.listing.specs.declared.norm.Normed.{Normed}
 use Rattle.listing.specs.declared.norm.Normed.the-variants.{Norm, Refused}
 
@@ -28,14 +28,17 @@ worst P w d β =
     (max (largest (λ b. squares d (b * variables P) (variables P)) (P .t))
     (largest (λ b. squares β (b * variables P) (variables P)) (P .t + 1)))
 
-unfoldable pub normCauses : ℕ → ℕ → ℕ → ℕ → ℕ → List ℕ → List ℕ → List ℕ → List ℕ → List (ℕ × Bool)
-normCauses p s n m t w T d β =
-    callCauses p s n m t w T d (λ P. eqb (length β) (columns P)) (λ P. (5, not (allBelow (P .p) β)) ∷ [])
+-- 5 again, for "a given β not below p"
+abbrev pub normOwn : List ℕ → Given → List (ℕ × Bool)
+normOwn β G = (5, not (allBelow (G .numbers .p) β)) ∷ []
+
+abbrev pub normCauses : Given → List ℕ → List (ℕ × Bool)
+normCauses G β = callCauses G (Row (length β)) (normOwn β)
 
 abbrev pub answerOf : Normed → Answer
 answerOf (Norm x) = gives (x ∷ [])
 answerOf (Refused k) = refuses k
 
 -- the call as a whole
-abbrev pub normAnswer : ℕ → ℕ → ℕ → ℕ → ℕ → List ℕ → List ℕ → List ℕ → List ℕ → Answer
-normAnswer p s n m t w T d β = answer (first (normCauses p s n m t w T d β)) (worst (plan p s n m t) w d β ∷ [])
+abbrev pub normAnswer : Given → List ℕ → Answer
+normAnswer G β = answer (first (normCauses G β)) (worst (G .numbers) (G .weights) (G .products) β ∷ [])

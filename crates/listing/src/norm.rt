@@ -5,10 +5,12 @@ ghost use lib.ListN.{length};
 ghost use Rattle.lists.specs.Places.{largest};
 ghost use Rattle.field.specs.Rows.{dot};
 ghost use Rattle.plan.specs.Numbers.{Within, variables, columns};
-ghost use Rattle.plan.specs.Parts.{linkStart};
+ghost use Rattle.plan.specs.Parts.{linkStart, given};
 ghost use Rattle.listing.specs.Norm as specs;
 use plan::Checked;
+use plan::Own;
 use plan::Plan;
+use plan::admit;
 
 // What the call answers: the norm, or the number of the refusal.
 pub enum Normed {
@@ -105,15 +107,11 @@ pub fn worst_norm(
     d: &[u8],
     beta: &[u8],
 ) -> Normed
-    ensures { λ r. ⌜ specs.answerOf r ≡ specs.normAnswer p s n m t (now (weights .entry)) (now (tables .entry)) (now (d .entry)) (now (beta .entry)) ⌝ }
+    ensures { λ r. ⌜ specs.answerOf r ≡ specs.normAnswer (given p s n m t (now (weights .entry)) (now (tables .entry)) (now (d .entry))) (now (beta .entry)) ⌝ }
 {
-    match Plan::new(p, s, n, m, t) {
+    match admit(p, s, n, m, t, weights, tables, d, Own::Row(beta.len())) {
         Checked::Refused(k) => Normed::Refused(k),
         Checked::Accepted(plan) => {
-            let k = plan::part_refusal(plan, weights, tables, d, beta.len() == plan.columns());
-            if k != 0 {
-                return Normed::Refused(k);
-            }
             if !field::all_below(beta, plan.p) {
                 return Normed::Refused(5);
             }

@@ -5,6 +5,5 @@
 pub mod Steps
 pub mod Layout
 pub mod Calls
-
 -- What only serves the code: contracts of inner functions cite it, and no call's contract does.
 pub mod Placed

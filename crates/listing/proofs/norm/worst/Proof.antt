@@ -1,8 +1,8 @@
--- `listing::norm::worst` meets its contract: the largest of the links, of the products and of β's rows (`Answers`). Assumes nothing.
+-- `listing::norm::worst` meets its contract: the largest of the links, of the products and of β's rows (`Norms`). Assumes nothing.
 use mathlib.Core.Path.{sym}
 use native.Mathlib.Nat.{le-of-eq}
 use native.Mathlib.Omega.{arith}
-use Rattle.listing.proofs.Answers.{norm-of}
+use Rattle.listing.proofs.Norms.{norm-of}
 use borrow.Author.Needs.{needs}
 use Rattle.listing.proofs.norm.worst.Statement.{statement}
 use Rattle.listing.proofs.norm.worst.Tie as tie
