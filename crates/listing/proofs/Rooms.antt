@@ -23,6 +23,7 @@ use Rattle.plan.specs.Numbers.{Within}
 use Rattle.plan.proofs.Bounds.{prime-high}
 use Rattle.program.specs.Steps.{kindOf, toOf, fromOf, byOf, lastRegister, goodStep, wellFormed}
 use Rattle.program.specs.Layout.{layout, stepCount}
+use Rattle.program.proofs.Pieces.{goodAt}
 use Rattle.program.proofs.Shape.{one-less, layout-length, layout-wellFormed}
 use Rattle.listing.specs.Norm.{worst}
 use Rattle.listing.specs.Decimal.{line}
@@ -71,13 +72,10 @@ module _ (P : Plan) (within : Within P) where
     | no l ↦ let z : at steps i ≡ 0 = at-past steps i (omega arith) in omega (arith, z)
   ]
     where
-      good : ℕ → Bool
-      good j = goodStep P (kindOf steps j) (toOf steps j) (fromOf steps j) (byOf steps j)
-
       step : i < length steps → Small (kindOf steps (i / 4)) (toOf steps (i / 4)) (fromOf steps (i / 4)) (byOf steps (i / 4))
       step l =
           small-step (kindOf steps (i / 4)) (toOf steps (i / 4)) (fromOf steps (i / 4)) (byOf steps (i / 4))
-          (every-at good (length steps / 4) (both-true (eqb (length steps % 4) 0) (every good (length steps / 4)) h .1) (i / 4) (omega arith))
+          (every-at (goodAt P steps) (length steps / 4) (both-true (eqb (length steps % 4) 0) (every (goodAt P steps) (length steps / 4)) h .1) (i / 4) (omega arith))
 
       there : (j : ℕ) → at steps j < 1000 → j ≡ i → at steps i < 1000
       there j h e = subst (λ (k : ℕ). at steps k < 1000) e h

@@ -28,39 +28,36 @@ use Rattle.field.specs.Residues.{Residues, inverse, square, minusSquare}
 use Rattle.field.proofs.Modular.{pow-cong}
 use Rattle.plan.specs.declared.numbers.Plan.{Plan}
 use Rattle.program.specs.Steps.{lastRegister, tableAt, kindOf, toOf, fromOf, byOf, goodStep, wellFormed, assigned, stepped, registers, bootstraps, output}
+use Rattle.program.proofs.Pieces.{goodAt}
 use Rattle.program.proofs.Effects.{assigned-same, assigned-other}
 
 -- cause 11
 module _ (P : Plan) (steps : List ℕ) where
-  unfoldable pub goodAt : ℕ → Bool
-  goodAt i = goodStep P (kindOf steps i) (toOf steps i) (fromOf steps i) (byOf steps i)
-
   pub short : length steps % 4 ≢ 0 → wellFormed P steps ≡ false
   unfolding wellFormed
   short h = rw (ne-eqb (length steps % 4) 0 h)
 
-  pub well-formed : wellFormed P steps ≡ true → (length steps % 4 ≡ 0) × ((i : ℕ) → i < length steps / 4 → goodStep P (kindOf steps i) (toOf steps i) (fromOf steps i) (byOf steps i) ≡ true)
+  pub well-formed : wellFormed P steps ≡ true → (length steps % 4 ≡ 0) × ((i : ℕ) → i < length steps / 4 → goodAt P steps i ≡ true)
   unfolding wellFormed
   well-formed h =
       let hs = both-true (eqb (length steps % 4) 0) _ h in
-      (eqb-true (length steps % 4) 0 (hs .0), every-at (λ i. goodStep P (kindOf steps i) (toOf steps i) (fromOf steps i) (byOf steps i)) (length steps / 4) (hs .1))
+      (eqb-true (length steps % 4) 0 (hs .0), every-at (goodAt P steps) (length steps / 4) (hs .1))
 
-  pub bad : (i : ℕ) → i < length steps / 4 → goodStep P (kindOf steps i) (toOf steps i) (fromOf steps i) (byOf steps i) ≡ false → wellFormed P steps ≡ false
+  pub bad : (i : ℕ) → i < length steps / 4 → goodAt P steps i ≡ false → wellFormed P steps ≡ false
   bad i l e = refute (wellFormed P steps) (λ t. true≢false (sym (well-formed t .1 i l) ∙ e))
 
-  pub good-none : every goodAt 0 ≡ true
+  pub good-none : every (goodAt P steps) 0 ≡ true
   unfolding every
   good-none = refl
 
-  pub good-next : (i : ℕ) → every goodAt i ≡ true → goodStep P (kindOf steps i) (toOf steps i) (fromOf steps i) (byOf steps i) ≡ true → every goodAt (i + 1) ≡ true
-  unfolding goodAt
-  good-next i h e = every-next goodAt i ∙ both (every goodAt i) (goodAt i) h e
+  pub good-next : (i : ℕ) → every (goodAt P steps) i ≡ true → goodAt P steps i ≡ true → every (goodAt P steps) (i + 1) ≡ true
+  good-next i h e = every-next (goodAt P steps) i ∙ both (every (goodAt P steps) i) (goodAt P steps i) h e
 
-  pub good : (i : ℕ) → length steps % 4 ≡ 0 → i ≤ length steps / 4 → length steps / 4 ≤ i → every goodAt i ≡ true → wellFormed P steps ≡ true
-  unfolding wellFormed goodAt
+  pub good : (i : ℕ) → length steps % 4 ≡ 0 → i ≤ length steps / 4 → length steps / 4 ≤ i → every (goodAt P steps) i ≡ true → wellFormed P steps ≡ true
+  unfolding wellFormed
   good i h low high e =
       let k : i ≡ length steps / 4 = omega arith in
-      both (eqb (length steps % 4) 0) _ (eq-eqb (length steps % 4) 0 h) (ap (every goodAt) (sym k) ∙ e)
+      both (eqb (length steps % 4) 0) _ (eq-eqb (length steps % 4) 0 h) (ap (every (goodAt P steps)) (sym k) ∙ e)
 
 pub record StepFacts (P : Plan) (kind to from by : ℕ) : Type 0 where
   pub to-low : to ≤ lastRegister P

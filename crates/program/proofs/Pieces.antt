@@ -3,11 +3,11 @@
 --     same-front, same-back   the steps of two lists one after the other are those of the first and then those of the second
 --     runs, ends              a run of the first k steps, or of all steps, from any registers; registers-runs ties them to `registers`
 --     Goes xs f g             the run over xs goes from the registers f to the registers g; goes-then, goes-joined
---     Good xs                 each step passes cause 11; good-then, good-joined
+--     goodAt xs i, Good xs    step i, and each step, passes cause 11; good-then, good-joined
 --     Boots xs c              the list has c kind 2 steps; boots-then, boots-joined
 -- Assumes nothing.
 use mathlib.Core.Path.{_≡_, refl, ap, ap₂, _∙_}
-use mathlib.Core.Bool.{true, cond}
+use mathlib.Core.Bool.{Bool, true, cond}
 use mathlib.Core.List.{List, [], _∷_, _++_}
 use Prim.Native.Nat.{ℕ, zero, suc, _+_, _-_, _*_, _/_, _%_, _≤_, _<_}
 use native.Mathlib.Decide.{decLt}
@@ -60,15 +60,16 @@ whole-then xs ys hx hy = rw length-append (omega arith)
 count-then : (xs ys : List ℕ) → Whole xs → length (xs ++ ys) / 4 ≡ length xs / 4 + length ys / 4
 count-then xs ys hx = rw length-append (omega arith)
 
-module _ (P : Plan) where
-  good-at : List ℕ → ℕ → Type 0
-  good-at xs i = goodStep P (kindOf xs i) (toOf xs i) (fromOf xs i) (byOf xs i) ≡ true
+-- step i of a list meets none of the conditions of cause 11, as a test
+abbrev pub goodAt : Plan → List ℕ → ℕ → Bool
+goodAt P xs i = goodStep P (kindOf xs i) (toOf xs i) (fromOf xs i) (byOf xs i)
 
+module _ (P : Plan) where
   pub record Good (xs : List ℕ) : Type 0 where
     pub whole : Whole xs
-    pub each : (i : ℕ) → i < length xs / 4 → goodStep P (kindOf xs i) (toOf xs i) (fromOf xs i) (byOf xs i) ≡ true
+    pub each : (i : ℕ) → i < length xs / 4 → goodAt P xs i ≡ true
 
-  good-same : (xs ys : List ℕ) (i j : ℕ) → Same xs i ys j → goodStep P (kindOf ys j) (toOf ys j) (fromOf ys j) (byOf ys j) ≡ true → goodStep P (kindOf xs i) (toOf xs i) (fromOf xs i) (byOf xs i) ≡ true
+  good-same : (xs ys : List ℕ) (i j : ℕ) → Same xs i ys j → goodAt P ys j ≡ true → goodAt P xs i ≡ true
   good-same xs ys i j s h = rw (s .kind, s .to, s .from, s .by) h
 
   pub good-then : {xs ys : List ℕ} → Good xs → Good ys → Good (xs ++ ys)
@@ -100,7 +101,7 @@ module _ (P : Plan) where
   unfolding wellFormed
   good-wellFormed {xs} g =
       both (eqb (length xs % 4) 0) _ (eq-eqb (length xs % 4) 0 (g .whole))
-      (every-of (λ i. goodStep P (kindOf xs i) (toOf xs i) (fromOf xs i) (byOf xs i)) (length xs / 4) (g .each))
+      (every-of (goodAt P xs) (length xs / 4) (g .each))
 
 pub record Boots (xs : List ℕ) (c : ℕ) : Type 0 where
   pub whole : Whole xs

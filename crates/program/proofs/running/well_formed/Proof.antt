@@ -6,7 +6,8 @@ use native.Mathlib.Omega.{arith}
 use lib.ListN.{length}
 use borrow.Author.Tests.{not-true, not-false}
 use Rattle.lists.specs.Places.{every}
-use Rattle.program.proofs.Interpreting.{goodAt, short, bad, good, good-none, good-next}
+use Rattle.program.proofs.Pieces.{goodAt}
+use Rattle.program.proofs.Interpreting.{short, bad, good, good-none, good-next}
 use Rattle.program.proofs.running.well_formed.Statement.{statement}
 use Rattle.program.proofs.running.well_formed.Tie as tie
 
@@ -23,7 +24,7 @@ returns : tie.Need-returns Inv-loop μ-loop
 returns c = sym (short _ _ (c .if1 .taken))
 
 loop-holds : tie.Need-loop-holds Inv-loop μ-loop
-loop-holds c = (omega arith, good-none _ _)
+loop-holds c = let s = c .before .before .args in (omega arith, good-none (s .plan) (s .steps .now))
 
 mul-k : tie.Need-mul-k Inv-loop μ-loop
 mul-k c = omega arith

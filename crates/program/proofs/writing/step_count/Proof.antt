@@ -1,6 +1,5 @@
 -- `program::writing::step_count` meets its contract: the numbers are small, and m(2n+m+3) is twice m(n+2) plus m(m-1).
 -- Assumes nothing.
-use mathlib.Core.Path.{_≡_}
 use Prim.Native.Nat.{_+_, _*_, _≤_}
 use native.Mathlib.Nat.{mul-le-mul}
 use native.Mathlib.Omega.{arith}
