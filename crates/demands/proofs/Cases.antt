@@ -6,24 +6,24 @@ use Prim.Native.Nat.{ℕ, _+_, _*_, _%_}
 use Rattle.lists.specs.Places.{sum, tab, every, joined}
 use Rattle.field.specs.Primes.{isPrime, oddPrime}
 use Rattle.field.specs.Residues.{inverse, square, minusSquare}
-use Rattle.plan.specs.Numbers.{badRadix, outOfRange, plan}
-use Rattle.plan.specs.Parts.{lengthsFit, valuesFit, callCauses}
+use Rattle.plan.specs.Numbers.{badRadix, outOfRange}
+use Rattle.plan.specs.Parts.{Given, given, lengthsFit, valuesFit, storeSize, callCauses}
 use Rattle.plan.specs.Rows.{digit, link, chain, values, weighted, rowPlace, row}
 use Rattle.store.specs.declared.elimination.Filed.the-variants.{New, Implied, Refused}
-use Rattle.store.specs.Elimination.{isZeroRow, isPivot, isReduced, residual, lead, normal, put, outcome, after, flat}
-use Rattle.store.specs.Calls.{fileCauses, answerOf, filed, coefficients}
+use Rattle.store.specs.Elimination.{isZeroRow, isPivot, isReduced, residual, lead, normal, inserted, outcome, after, rowStart, flat}
+use Rattle.store.specs.Calls.{answerOf, filed, coefficients}
 use Rattle.program.specs.Steps.{bootstraps, tableAt}
 use Rattle.program.specs.Layout.{adds, linkSteps, productSteps, layout, stepCount}
-use Rattle.demands.specs.Demand3.{Given, Filing, ours, call, refusal, answer, storeAfter, emptyStore, storeOf}
+use Rattle.demands.specs.Demand3.{Filing, ours, call, refusal, answer, storeAfter, emptyStore, storeOf}
 
 abbrev pub X : Given
-X = record { numbers = plan 3 2 2 0 1; weights = []; tables = []; products = 1 ∷ 1 ∷ [] }
+X = given 3 2 2 0 1 [] [] (1 ∷ 1 ∷ [])
 
 abbrev pub L : Given
-L = record { numbers = plan 3 2 1 1 0; weights = 1 ∷ []; tables = 1 ∷ 0 ∷ 0 ∷ []; products = [] }
+L = given 3 2 1 1 0 (1 ∷ []) (1 ∷ 0 ∷ 0 ∷ []) []
 
 abbrev pub F : Given
-F = record { numbers = plan 5 2 1 0 0; weights = []; tables = []; products = [] }
+F = given 5 2 1 0 0 [] [] []
 
 -- the store after some filings
 abbrev pub from : Given → List Filing → List ℕ
@@ -51,7 +51,7 @@ pub record Starred : Type 0 where
   pub five-product : (tableAt (F .numbers) (F .tables) 0 ((2 + 3) % 5) + tableAt (F .numbers) (F .tables) 1 ((2 + 4 * 3) % 5)) % 5 ≡ 1
 
 pub starred : Starred
-unfolding storeOf storeAfter answer refusal filed coefficients fileCauses callCauses badRadix outOfRange oddPrime isPrime every lengthsFit valuesFit isZeroRow isPivot isReduced residual lead normal put outcome after flat tab sum row rowPlace weighted values chain link digit inverse square minusSquare tableAt bootstraps layout stepCount joined linkSteps productSteps adds
+unfolding storeOf storeAfter answer refusal filed coefficients callCauses storeSize rowStart badRadix outOfRange oddPrime isPrime every lengthsFit valuesFit isZeroRow isPivot isReduced residual lead normal inserted outcome after flat tab sum row rowPlace weighted values chain link digit inverse square minusSquare tableAt bootstraps layout stepCount joined linkSteps productSteps adds
 starred =
     record {
       xor-1 = refl;

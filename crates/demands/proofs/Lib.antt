@@ -1,5 +1,4 @@
--- The proof of demand 3: entries as equations, the state that a list of calls keeps, one turn, and the program.
-pub mod Equations
+-- The proof of demand 3: the state that a list of calls keeps, one turn, whole lists, and the program.
 pub mod Turns
 pub mod Lists
 pub mod Programs
