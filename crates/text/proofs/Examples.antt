@@ -9,10 +9,10 @@ use Rattle.lists.specs.Places.{sum, tab, every, joined, largest}
 use Rattle.field.specs.Primes.{isPrime, oddPrime}
 use Rattle.field.specs.Residues.{inverse}
 use Rattle.plan.specs.Numbers.{badRadix, outOfRange}
-use Rattle.plan.specs.Parts.{lengthsFit, valuesFit, callCauses}
+use Rattle.plan.specs.Parts.{lengthsFit, valuesFit, storeSize, callCauses}
 use Rattle.plan.specs.Rows.{digit, link, chain, values, weighted, rowPlace, row}
-use Rattle.store.specs.Elimination.{isZeroRow, isPivot, isReduced, residual, lead, normal, put, outcome, after, flat}
-use Rattle.store.specs.Calls.{fileCauses, filed, coefficients}
+use Rattle.store.specs.Elimination.{isZeroRow, isPivot, isReduced, residual, lead, normal, inserted, outcome, after, rowStart, flat}
+use Rattle.store.specs.Calls.{filed, coefficients}
 use Rattle.program.specs.Layout.{adds, linkSteps, productSteps, layout, stepCount}
 use Rattle.listing.specs.Norm.{squares, worst}
 use Rattle.listing.specs.Decimal.{digitsOf, decimal, spaced, line}
@@ -62,7 +62,7 @@ pub record Meanings : Type 0 where
   pub blank-line : meaning (bytes "p s n links products\n3 2 2 0 1\n1 1\nentry value\n\n") ≡ bytes "refusal line\n13 5\n"
 
 pub meanings : Meanings
-unfolding sum tab every joined isPrime oddPrime inverse badRadix outOfRange lengthsFit valuesFit callCauses digit link chain values weighted rowPlace row isZeroRow isPivot isReduced residual lead normal put outcome after flat fileCauses filed coefficients adds linkSteps productSteps layout stepCount largest squares worst digitsOf decimal spaced line listing refused cutAt allDigits isNumeral numberFrom allNumerals asks numbers same judged ended from meaning
+unfolding sum tab every joined isPrime oddPrime inverse badRadix outOfRange lengthsFit valuesFit storeSize callCauses digit link chain values weighted rowPlace row isZeroRow isPivot isReduced residual lead normal inserted outcome after rowStart flat filed coefficients adds linkSteps productSteps layout stepCount largest squares worst digitsOf decimal spaced line listing refused cutAt allDigits isNumeral numberFrom allNumerals asks numbers same judged ended from meaning
 meanings =
     record {
       xor = refl;

@@ -9,7 +9,7 @@
 -- Assumes nothing.
 use mathlib.Core.Path.{_≡_, refl, sym, ap, subst, _∙_}
 use mathlib.Core.List.{List, [], _∷_, _++_, append-nil}
-use Prim.Native.Nat.{ℕ, _+_, _-_, _*_, _/_, _≤_, _<_}
+use Prim.Native.Nat.{ℕ, _+_, _*_, _≤_, _<_}
 use native.Mathlib.Nat.{pos-of-ne-zero}
 use native.Mathlib.Omega.{arith}
 use lib.ListN.{length, take, drop, length-append, drop-of-length-le}
@@ -21,7 +21,7 @@ use Rattle.lists.proofs.Tabs.{tab-length}
 use Rattle.field.specs.Residues.{Residues}
 use Rattle.plan.specs.declared.numbers.Plan.{Plan}
 use Rattle.plan.specs.Numbers.{columns, Within}
-use Rattle.plan.specs.Parts.{Lent}
+use Rattle.plan.specs.Parts.{lend, storeSize, Lent}
 use Rattle.plan.proofs.Bounds.{prime-low}
 use Rattle.program.specs.Layout.{layout, stepCount}
 use Rattle.program.proofs.Shape.{layout-length}
@@ -91,7 +91,7 @@ module _ (state : code.State) (line w T d S : List ℕ) where
         → refused 13 (state .line) ≡ finish (stateOf state line w T d S)
     finish-early h g = early (state .line) w T d S (state .stage) h g ∙ nothing-held (judgedOf (state .stage) w T d S)
 
-    pub finish-filed : (P : Plan) (a b c size : ℕ) → state .stage ≡ Entries P a b c → size ≡ columns P * (columns P + 1)
+    pub finish-filed : (P : Plan) (a b c size : ℕ) → state .stage ≡ Entries P a b c → size ≡ storeSize (columns P)
         → listing P (take a w) (take c d) (coefficients (columns P) (take size S)) ≡ finish (stateOf state line w T d S)
     unfolding finish ended
     finish-filed P a b c size e h =
@@ -106,20 +106,17 @@ module _ (state : code.State) (line w T d S : List ℕ) where
       let fits = subst Fits e f in
       (fits .0, omega (arith, fits .1, room .weights-room), omega (arith, fits .3, room .products-room))
 
-  pub filed-sound : (P : Plan) (a b c size : ℕ) → state .stage ≡ Entries P a b c → size ≡ columns P * (columns P + 1) → SoundState (stateOf state line w T d S)
-      → Lent P (take a w) (take b T) (take c d) × Ready (P .p) (columns P) (take size S)
+  pub filed-sound : (P : Plan) (a b c size : ℕ) → state .stage ≡ Entries P a b c → size ≡ storeSize (columns P) → SoundState (stateOf state line w T d S)
+      → Lent (lend P (take a w) (take b T) (take c d)) × Ready (P .p) (columns P) (take size S)
   unfolding Sound SoundState
   filed-sound P a b c size e h s =
       let at-entries = subst (λ (g : Stage). SoundState (stated (state .line) (take (state .held) line) (judgedOf g w T d S))) e s in
-      (lent P (at-entries .0), subst (λ (n : ℕ). Ready (P .p) (columns P) (take n S)) (sym h) (at-entries .1))
+      (lent (lend P (take a w) (take b T) (take c d)) (at-entries .0), subst (λ (n : ℕ). Ready (P .p) (columns P) (take n S)) (sym h) (at-entries .1))
 
-pub program-room : (P : Plan) (n : ℕ) → Within P → n ≡ P .m * (P .n + 2) + P .m * (P .m - 1) / 2 + 1 + P .t * (2 * (P .n + P .m) + 12) + (P .n + P .m)
-    → (4 * n ≤ 20000) × ((w d β : List ℕ) → length (layout P w d β) ≡ 4 * n)
-unfolding stepCount
+pub program-room : (P : Plan) (n : ℕ) → Within P → n ≡ stepCount P → (4 * n ≤ 20000) × ((w d β : List ℕ) → length (layout P w d β) ≡ 4 * n)
 program-room P n within e = (omega (arith, few-steps P within), λ w d β. layout-length P w d β ∙ ap (λ (k : ℕ). 4 * k) (sym e))
 
-pub program-fits : (P : Plan) (n : ℕ) {k : ℕ} → Within P → n ≡ P .m * (P .n + 2) + P .m * (P .m - 1) / 2 + 1 + P .t * (2 * (P .n + P .m) + 12) + (P .n + P .m)
-    → 20000 ≤ k → 4 * n ≤ k
+pub program-fits : (P : Plan) (n : ℕ) {k : ℕ} → Within P → n ≡ stepCount P → 20000 ≤ k → 4 * n ≤ k
 program-fits P n within e h = omega (arith, program-room P n within e .0)
 
 -- a slice whose front of k places has been lent and filled

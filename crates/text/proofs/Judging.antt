@@ -20,24 +20,26 @@ use Rattle.lists.specs.Places.{at, placed}
 use Rattle.plan.specs.declared.numbers.Plan.{Plan}
 use Rattle.plan.specs.declared.numbers.Checked.the-variants.{Accepted, Refused}
 use Rattle.plan.specs.Causes.{first, result}
-use Rattle.plan.specs.Numbers.{columns, numberCauses, plan, numbersOf, answerOf, checked}
-use Rattle.plan.proofs.Refusals.{first-refused, first-passed, answer-refuses, answer-gives, call-plan}
+use Rattle.plan.specs.Numbers.{columns, numberCauses, plan, answerOf, checked}
+use Rattle.plan.specs.Parts.{Given, lend}
+use Rattle.plan.proofs.Refusals.{first-refused, first-passed}
+use Rattle.plan.proofs.Limits.{refused-number, accepted-plan}
 use Rattle.lines.specs.Lines.{asks, numbers}
 use Rattle.lines.proofs.LineLaws.{asks-count}
-use Rattle.text.specs.Meaning.{Place, header, weights, table, product, entryNames, Judged, next, cause, unless, afterLinks, afterProducts, headerCauses, headerPlan, lineCauses, judged}
+use Rattle.text.specs.Meaning.{Place, header, weights, table, product, entryNames, Judged, next, cause, unless, moreWeights, moreTables, moreProducts, afterLinks, afterProducts, headerCauses, headerPlan, lineCauses, judged}
 
-module _ (P : Plan) (w T : List ℕ) where
-  pub products-more : (j : ℕ) (d : List ℕ) → j < P .t → next (product P j w T d) ≡ next (afterProducts P j w T d)
-  products-more j d h = rw (lt-ltb j (P .t) h)
+module _ (G : Given) where
+  pub products-more : (j : ℕ) → j < G .numbers .t → next (product G j) ≡ next (afterProducts G j)
+  products-more j h = rw (lt-ltb j (G .numbers .t) h)
 
-  pub products-done : (j : ℕ) (d : List ℕ) → P .t ≤ j → next (entryNames P w T d) ≡ next (afterProducts P j w T d)
-  products-done j d h = rw (le-ltb j (P .t) h)
+  pub products-done : (j : ℕ) → G .numbers .t ≤ j → next (entryNames G) ≡ next (afterProducts G j)
+  products-done j h = rw (le-ltb j (G .numbers .t) h)
 
-  pub links-more : (k : ℕ) → k < P .m → next (weights P k w T) ≡ next (afterLinks P k w T)
-  links-more k h = rw (lt-ltb k (P .m) h)
+  pub links-more : (k : ℕ) → k < G .numbers .m → next (weights G k) ≡ next (afterLinks G k)
+  links-more k h = rw (lt-ltb k (G .numbers .m) h)
 
-  pub links-done : (k : ℕ) → P .m ≤ k → next (afterProducts P 0 w T []) ≡ next (afterLinks P k w T)
-  links-done k h = rw (le-ltb k (P .m) h)
+  pub links-done : (k : ℕ) → G .numbers .m ≤ k → next (afterProducts G 0) ≡ next (afterLinks G k)
+  links-done k h = rw (le-ltb k (G .numbers .m) h)
 
 -- a refusal, or the next place
 pub refuses : (k : ℕ) (place : Place) → (k ≡ 0 → ⊥) → cause k ≡ unless k place
@@ -52,9 +54,12 @@ pub header-thirteen : (line : List ℕ) → asks 5 5 line ≡ false → cause 13
 unfolding judged
 header-thirteen line e = rw e
 
--- the values line by its numbers
+-- the values line by its numbers: nothing of the parts has been read
+abbrev begun : Plan → Place
+begun P = afterLinks (lend P [] [] []) 0
+
 outcome : Plan → Judged
-outcome P = unless (first (headerCauses P)) (afterLinks P 0 [] [])
+outcome P = unless (first (headerCauses P)) (begun P)
 
 header-judged : (line : List ℕ) → asks 5 5 line ≡ true → judged header line ≡ outcome (headerPlan (numbers line))
 unfolding judged outcome
@@ -65,33 +70,33 @@ module _ (p s n m t : ℕ) where
   wide = (14, ltb 255 (columns (plan p s n m t))) ∷ []
 
   outcome-refused : (k : ℕ) → checked p s n m t ≡ answerOf (Refused k) → cause k ≡ outcome (plan p s n m t)
-  unfolding checked answerOf outcome wide
+  unfolding outcome wide
   outcome-refused k e =
-      let r = answer-refuses (first (numberCauses p s n m t)) (numbersOf (plan p s n m t)) k e in
-      refuses k (afterLinks (plan p s n m t) 0 [] []) (λ z. omega (arith, r .1))
-      ∙ ap (λ (j : ℕ). unless j (afterLinks (plan p s n m t) 0 [] [])) (first-refused (numberCauses p s n m t) wide k (omega arith) (r .0) (r .1))
+      let r = refused-number p s n m t k e in
+      refuses k (begun (plan p s n m t)) (λ z. omega (arith, r .1))
+      ∙ ap (λ (j : ℕ). unless j (begun (plan p s n m t))) (first-refused (numberCauses p s n m t) wide k (omega arith) (r .0) (r .1))
 
   module _ (Q : Plan) (e : checked p s n m t ≡ answerOf (Accepted Q)) where
     passed : first (headerCauses (plan p s n m t)) ≡ first wide
-    unfolding checked answerOf wide
-    passed = first-passed (numberCauses p s n m t) wide (omega arith) (answer-gives (first (numberCauses p s n m t)) (numbersOf (plan p s n m t)) (numbersOf Q) e .0)
+    unfolding wide
+    passed = first-passed (numberCauses p s n m t) wide (omega arith) (accepted-plan p s n m t e .0)
 
     same-columns : columns Q ≡ columns (plan p s n m t)
-    same-columns = ap columns (sym (call-plan p s n m t e))
+    same-columns = ap columns (sym (accepted-plan p s n m t e .1))
 
     outcome-wide : 255 < columns Q → cause 14 ≡ outcome (plan p s n m t)
     unfolding outcome wide
     outcome-wide h =
         let met : first (headerCauses (plan p s n m t)) ≡ 14 = passed ∙ rw (lt-ltb 255 (columns (plan p s n m t)) (rw same-columns at h)) in
-        refuses 14 (afterLinks (plan p s n m t) 0 [] []) (λ z. omega arith)
-        ∙ ap (λ (j : ℕ). unless j (afterLinks (plan p s n m t) 0 [] [])) (sym met)
+        refuses 14 (begun (plan p s n m t)) (λ z. omega arith)
+        ∙ ap (λ (j : ℕ). unless j (begun (plan p s n m t))) (sym met)
 
-    outcome-passed : columns Q ≤ 255 → next (afterLinks Q 0 [] []) ≡ outcome (plan p s n m t)
+    outcome-passed : columns Q ≤ 255 → next (begun Q) ≡ outcome (plan p s n m t)
     unfolding outcome wide
     outcome-passed h =
         let met : first (headerCauses (plan p s n m t)) ≡ 0 = passed ∙ rw (le-ltb 255 (columns (plan p s n m t)) (rw same-columns at h)) in
-        ap (λ (R : Plan). next (afterLinks R 0 [] [])) (sym (call-plan p s n m t e))
-        ∙ reaches (first (headerCauses (plan p s n m t))) (afterLinks (plan p s n m t) 0 [] []) met
+        ap (λ (R : Plan). next (begun R)) (sym (accepted-plan p s n m t e .1))
+        ∙ reaches (first (headerCauses (plan p s n m t))) (begun (plan p s n m t)) met
 
 module _ (line ns : List ℕ) (e : ns ≡ numbers line) (asks5 : asks 5 5 line ≡ true) where
   is-outcome : outcome (plan (at ns 0) (at ns 1) (at ns 2) (at ns 3) (at ns 4)) ≡ judged header line
@@ -104,7 +109,7 @@ module _ (line ns : List ℕ) (e : ns ≡ numbers line) (asks5 : asks 5 5 line �
     pub header-wide : 255 < columns Q → cause 14 ≡ judged header line
     header-wide l = outcome-wide (at ns 0) (at ns 1) (at ns 2) (at ns 3) (at ns 4) Q h l ∙ is-outcome
 
-    pub header-passed : columns Q ≤ 255 → next (afterLinks Q 0 [] []) ≡ judged header line
+    pub header-passed : columns Q ≤ 255 → next (begun Q) ≡ judged header line
     header-passed l = outcome-passed (at ns 0) (at ns 1) (at ns 2) (at ns 3) (at ns 4) Q h l ∙ is-outcome
 
 -- a line of a part: r is its refusal
@@ -149,34 +154,37 @@ module _ (n p r : ℕ) (line : List ℕ) (e : r ≡ first (lineCauses n p line))
 
 module _ (P : Plan) (k r : ℕ) (line : List ℕ) where
   module _ (e : r ≡ first (lineCauses (P .n + k) (P .p) line)) where
-    pub weights-refuses : (w T : List ℕ) → (r ≡ 0 → ⊥) → cause r ≡ judged (weights P k w T) line
+    pub weights-refuses : (w T d : List ℕ) → (r ≡ 0 → ⊥) → cause r ≡ judged (weights (lend P w T d) k) line
     unfolding judged
-    weights-refuses w T h = part-refuses (P .n + k) (P .p) r line e (table P k (w ++ numbers line) T) h
+    weights-refuses w T d h = part-refuses (P .n + k) (P .p) r line e (table (moreWeights (lend P w T d) (numbers line)) k) h
 
-    pub weights-reaches : (w out T : List ℕ) (a : ℕ) → r ≡ 0 → a + (P .n + k) ≤ length w → out ≡ result r (placed w a (numbers line)) w → next (table P k (take (a + (P .n + k)) out) T) ≡ judged (weights P k (take a w) T) line
+    pub weights-reaches : (w out T d : List ℕ) (a : ℕ) → r ≡ 0 → a + (P .n + k) ≤ length w → out ≡ result r (placed w a (numbers line)) w
+        → next (table (lend P (take (a + (P .n + k)) out) T d) k) ≡ judged (weights (lend P (take a w) T d) k) line
     unfolding judged
-    weights-reaches w out T a z h o =
-        ap (λ (l : List ℕ). next (table P k l T)) (part-filled (P .n + k) (P .p) r line e w out a z h o)
-        ∙ part-reaches (P .n + k) (P .p) r line e (table P k (take a w ++ numbers line) T) z
+    weights-reaches w out T d a z h o =
+        ap (λ (l : List ℕ). next (table (lend P l T d) k)) (part-filled (P .n + k) (P .p) r line e w out a z h o)
+        ∙ part-reaches (P .n + k) (P .p) r line e (table (moreWeights (lend P (take a w) T d) (numbers line)) k) z
 
   module _ (e : r ≡ first (lineCauses (P .p) (P .p) line)) where
-    pub table-refuses : (w T : List ℕ) → (r ≡ 0 → ⊥) → cause r ≡ judged (table P k w T) line
+    pub table-refuses : (w T d : List ℕ) → (r ≡ 0 → ⊥) → cause r ≡ judged (table (lend P w T d) k) line
     unfolding judged
-    table-refuses w T h = part-refuses (P .p) (P .p) r line e (afterLinks P (suc k) w (T ++ numbers line)) h
+    table-refuses w T d h = part-refuses (P .p) (P .p) r line e (afterLinks (moreTables (lend P w T d) (numbers line)) (suc k)) h
 
-    pub table-reaches : (w T out : List ℕ) (b : ℕ) → r ≡ 0 → b + P .p ≤ length T → out ≡ result r (placed T b (numbers line)) T → next (afterLinks P (k + 1) w (take (b + P .p) out)) ≡ judged (table P k w (take b T)) line
+    pub table-reaches : (w T out d : List ℕ) (b : ℕ) → r ≡ 0 → b + P .p ≤ length T → out ≡ result r (placed T b (numbers line)) T
+        → next (afterLinks (lend P w (take (b + P .p) out) d) (k + 1)) ≡ judged (table (lend P w (take b T) d) k) line
     unfolding judged
-    table-reaches w T out b z h o =
-        ap₂ (λ (i : ℕ) (l : List ℕ). next (afterLinks P i w l)) (add-one k) (part-filled (P .p) (P .p) r line e T out b z h o)
-        ∙ part-reaches (P .p) (P .p) r line e (afterLinks P (suc k) w (take b T ++ numbers line)) z
+    table-reaches w T out d b z h o =
+        ap₂ (λ (i : ℕ) (l : List ℕ). next (afterLinks (lend P w l d) i)) (add-one k) (part-filled (P .p) (P .p) r line e T out b z h o)
+        ∙ part-reaches (P .p) (P .p) r line e (afterLinks (moreTables (lend P w (take b T) d) (numbers line)) (suc k)) z
 
   module _ (e : r ≡ first (lineCauses (P .n + P .m) (P .p) line)) where
-    pub product-refuses : (w T d : List ℕ) → (r ≡ 0 → ⊥) → cause r ≡ judged (product P k w T d) line
+    pub product-refuses : (w T d : List ℕ) → (r ≡ 0 → ⊥) → cause r ≡ judged (product (lend P w T d) k) line
     unfolding judged
-    product-refuses w T d h = part-refuses (P .n + P .m) (P .p) r line e (afterProducts P (suc k) w T (d ++ numbers line)) h
+    product-refuses w T d h = part-refuses (P .n + P .m) (P .p) r line e (afterProducts (moreProducts (lend P w T d) (numbers line)) (suc k)) h
 
-    pub product-reaches : (w T d out : List ℕ) (c : ℕ) → r ≡ 0 → c + (P .n + P .m) ≤ length d → out ≡ result r (placed d c (numbers line)) d → next (afterProducts P (k + 1) w T (take (c + (P .n + P .m)) out)) ≡ judged (product P k w T (take c d)) line
+    pub product-reaches : (w T d out : List ℕ) (c : ℕ) → r ≡ 0 → c + (P .n + P .m) ≤ length d → out ≡ result r (placed d c (numbers line)) d
+        → next (afterProducts (lend P w T (take (c + (P .n + P .m)) out)) (k + 1)) ≡ judged (product (lend P w T (take c d)) k) line
     unfolding judged
     product-reaches w T d out c z h o =
-        ap₂ (λ (i : ℕ) (l : List ℕ). next (afterProducts P i w T l)) (add-one k) (part-filled (P .n + P .m) (P .p) r line e d out c z h o)
-        ∙ part-reaches (P .n + P .m) (P .p) r line e (afterProducts P (suc k) w T (take c d ++ numbers line)) z
+        ap₂ (λ (i : ℕ) (l : List ℕ). next (afterProducts (lend P w T l) i)) (add-one k) (part-filled (P .n + P .m) (P .p) r line e d out c z h o)
+        ∙ part-reaches (P .n + P .m) (P .p) r line e (afterProducts (moreProducts (lend P w T (take c d)) (numbers line)) (suc k)) z

@@ -10,7 +10,7 @@ use Prim.Native.Nat.{ℕ, zero, suc, _+_, _≤_, _<_}
 use native.Mathlib.Nat.{le-antisymm}
 use native.Mathlib.Omega.{arith}
 use lib.Dec.{eqb, ltb}
-use lib.ListN.{length, length-append, length-map}
+use lib.ListN.{length, length-append}
 use borrow.Author.Tests.{ltb-true, ltb-false, not-false}
 use Rattle.lists.specs.Places.{sum, every, at}
 use Rattle.lists.proofs.Sums.{sum-suc}
@@ -20,14 +20,15 @@ use Rattle.field.proofs.Ranges.{residues-of}
 use Rattle.plan.specs.declared.numbers.Plan.{Plan}
 use Rattle.plan.specs.Causes.{first}
 use Rattle.plan.specs.Numbers.{variables, columns, numberCauses, Within}
-use Rattle.plan.specs.Parts.{Lent}
+use Rattle.plan.specs.Parts.{Given, lend, Lent}
 use Rattle.plan.proofs.Bounds.{prime-low}
-use Rattle.plan.proofs.Refusals.{within-of, first-none}
-use Rattle.store.specs.Calls.{fileCauses}
-use Rattle.store.proofs.Readiness.{empty-ready, value-below, filed-ready}
+use Rattle.plan.proofs.Refusals.{first-none}
+use Rattle.plan.proofs.Limits.{within-of}
+use Rattle.store.specs.Calls.{emptyStore, fileCauses}
+use Rattle.store.proofs.Readiness.{empty-ready, unmet, filed-ready}
 use Rattle.lines.specs.Lines.{asks, numbers, same}
 use Rattle.lines.proofs.LineLaws.{asks-count}
-use Rattle.text.specs.Meaning.{Place, names, header, weights, table, product, entryNames, entries, Judged, next, cause, unless, afterLinks, afterProducts, headerCauses, headerPlan, lineCauses, entryCauses, entered, judged, planNames, pairNames}
+use Rattle.text.specs.Meaning.{Place, names, header, weights, table, product, entryNames, entries, Judged, next, cause, unless, moreWeights, moreTables, moreProducts, afterLinks, afterProducts, headerCauses, headerPlan, lineCauses, entryCauses, entered, judged, planNames, pairNames}
 use Rattle.text.specs.Streaming.{State, reading, stopped, turned, push, pushes, hold}
 use Rattle.text.specs.Progress.{Planned}
 use Rattle.text.specs.Sound.{Parts, Sound, SoundState}
@@ -56,88 +57,90 @@ part-line n p line e =
     let b = passed 5 (not (allBelow p (numbers line))) 0 (omega arith) (a .1) in
     (asks-count 5 n line (not-false (asks 5 n line) (a .0)), not-false (allBelow p (numbers line)) (b .0))
 
-module _ (P : Plan) where
-  sound-products : (b : ℕ) (w T d : List ℕ) → b ≤ P .t → Parts P (P .m) (P .m) b w T d → Sound (afterProducts P b w T d)
+module _ (G : Given) where
+  sound-products : (b : ℕ) → b ≤ G .numbers .t → Parts G (G .numbers .m) (G .numbers .m) b → Sound (afterProducts G b)
   unfolding Sound
-  sound-products b w T d l parts = by (ltb b (P .t)) refl
+  sound-products b l parts = by (ltb b (G .numbers .t)) refl
     where
-      by : (c : Bool) → ltb b (P .t) ≡ c → Sound (cond c (product P b w T d) (entryNames P w T d))
-      by true e = (ltb-true b (P .t) e, parts)
-      by false e = subst (λ (k : ℕ). Parts P (P .m) (P .m) k w T d) (le-antisymm l (ltb-false b (P .t) e)) parts
+      by : (c : Bool) → ltb b (G .numbers .t) ≡ c → Sound (cond c (product G b) (entryNames G))
+      by true e = (ltb-true b (G .numbers .t) e, parts)
+      by false e = subst (Parts G (G .numbers .m) (G .numbers .m)) (le-antisymm l (ltb-false b (G .numbers .t) e)) parts
 
-  sound-links : (k : ℕ) (w T : List ℕ) → k ≤ P .m → Parts P k k 0 w T [] → Sound (afterLinks P k w T)
+  sound-links : (k : ℕ) → k ≤ G .numbers .m → Parts G k k 0 → Sound (afterLinks G k)
   unfolding Sound
-  sound-links k w T l parts = by (ltb k (P .m)) refl
+  sound-links k l parts = by (ltb k (G .numbers .m)) refl
     where
-      by : (c : Bool) → ltb k (P .m) ≡ c → Sound (cond c (weights P k w T) (afterProducts P 0 w T []))
-      by true e = (ltb-true k (P .m) e, parts)
+      by : (c : Bool) → ltb k (G .numbers .m) ≡ c → Sound (cond c (weights G k) (afterProducts G 0))
+      by true e = (ltb-true k (G .numbers .m) e, parts)
       by false e =
-          sound-products 0 w T [] (omega arith) (subst (λ (i : ℕ). Parts P i i 0 w T []) (le-antisymm l (ltb-false k (P .m) e)) parts)
+          let all = le-antisymm l (ltb-false k (G .numbers .m) e) in
+          sound-products 0 (omega arith) (subst (λ (i : ℕ). Parts G i i 0) all parts)
 
-  no-parts : Planned P → Parts P 0 0 0 [] [] []
-  unfolding every sum
-  no-parts h =
-      record {
-        planned = h;
-        weights-length = refl;
-        tables-length = omega arith;
-        products-length = omega arith;
-        weights-below = refl;
-        tables-below = refl;
-        products-below = refl;
-      }
-
-  module _ {k l b : ℕ} {w T d : List ℕ} (parts : Parts P k l b w T d) (line : List ℕ) where
-    more-weights : first (lineCauses (P .n + k) (P .p) line) ≡ 0 → Parts P (suc k) l b (w ++ numbers line) T d
+  module _ {k l b : ℕ} (parts : Parts G k l b) (line : List ℕ) where
+    more-weights : first (lineCauses (G .numbers .n + k) (G .numbers .p) line) ≡ 0 → Parts (moreWeights G (numbers line)) (suc k) l b
     more-weights e =
-        let h = part-line (P .n + k) (P .p) line e in
+        let h = part-line (G .numbers .n + k) (G .numbers .p) line e in
         record {
           planned = parts .planned;
-          weights-length = length-append w (numbers line) ∙ rw (parts .weights-length, h .0) (sym (sum-suc (λ i. P .n + i) k));
+          weights-length = length-append (G .weights) (numbers line) ∙ rw (parts .weights-length, h .0) (sym (sum-suc (λ i. G .numbers .n + i) k));
           tables-length = parts .tables-length;
           products-length = parts .products-length;
-          weights-below = below-append (P .p) w (numbers line) (parts .weights-below) (h .1);
+          weights-below = below-append (G .numbers .p) (G .weights) (numbers line) (parts .weights-below) (h .1);
           tables-below = parts .tables-below;
           products-below = parts .products-below;
         }
 
-    more-tables : first (lineCauses (P .p) (P .p) line) ≡ 0 → Parts P k (suc l) b w (T ++ numbers line) d
+    more-tables : first (lineCauses (G .numbers .p) (G .numbers .p) line) ≡ 0 → Parts (moreTables G (numbers line)) k (suc l) b
     more-tables e =
-        let h = part-line (P .p) (P .p) line e in
+        let h = part-line (G .numbers .p) (G .numbers .p) line e in
         record {
           planned = parts .planned;
           weights-length = parts .weights-length;
-          tables-length = length-append T (numbers line) ∙ rw (parts .tables-length, h .0) (omega arith);
+          tables-length = length-append (G .tables) (numbers line) ∙ rw (parts .tables-length, h .0) (omega arith);
           products-length = parts .products-length;
           weights-below = parts .weights-below;
-          tables-below = below-append (P .p) T (numbers line) (parts .tables-below) (h .1);
+          tables-below = below-append (G .numbers .p) (G .tables) (numbers line) (parts .tables-below) (h .1);
           products-below = parts .products-below;
         }
 
-    more-products : first (lineCauses (variables P) (P .p) line) ≡ 0 → Parts P k l (suc b) w T (d ++ numbers line)
+    more-products : first (lineCauses (variables (G .numbers)) (G .numbers .p) line) ≡ 0 → Parts (moreProducts G (numbers line)) k l (suc b)
     more-products e =
-        let h = part-line (variables P) (P .p) line e in
+        let h = part-line (variables (G .numbers)) (G .numbers .p) line e in
         record {
           planned = parts .planned;
           weights-length = parts .weights-length;
           tables-length = parts .tables-length;
-          products-length = length-append d (numbers line) ∙ rw (parts .products-length, h .0) (omega arith);
+          products-length = length-append (G .products) (numbers line) ∙ rw (parts .products-length, h .0) (omega arith);
           weights-below = parts .weights-below;
           tables-below = parts .tables-below;
-          products-below = below-append (P .p) d (numbers line) (parts .products-below) (h .1);
+          products-below = below-append (G .numbers .p) (G .products) (numbers line) (parts .products-below) (h .1);
         }
 
-  pub lent : {w T d : List ℕ} → Parts P (P .m) (P .m) (P .t) w T d → Lent P w T d
-  lent {w} {T} {d} parts =
-      let pos : 0 < P .p = omega (arith, prime-low (parts .planned .0)) in
+  pub lent : Parts G (G .numbers .m) (G .numbers .m) (G .numbers .t) → Lent G
+  lent parts =
+      let pos : 0 < G .numbers .p = omega (arith, prime-low (parts .planned .0)) in
       record {
         weights-length = parts .weights-length;
         tables-length = parts .tables-length;
         products-length = parts .products-length;
-        weights-residues = residues-of (P .p) w pos (parts .weights-below);
-        tables-residues = residues-of (P .p) T pos (parts .tables-below);
-        products-residues = residues-of (P .p) d pos (parts .products-below);
+        weights-residues = residues-of (G .numbers .p) (G .weights) pos (parts .weights-below);
+        tables-residues = residues-of (G .numbers .p) (G .tables) pos (parts .tables-below);
+        products-residues = residues-of (G .numbers .p) (G .products) pos (parts .products-below);
       }
+
+-- before any part is read
+no-parts : (P : Plan) → Planned P → Parts (lend P [] [] []) 0 0 0
+unfolding sum every
+no-parts P h =
+    record {
+      planned = h;
+      weights-length = refl;
+      tables-length = omega arith;
+      products-length = omega arith;
+      weights-below = refl;
+      tables-below = refl;
+      products-below = refl;
+    }
 
 -- the values line: its plan is within its limits, and C at most 255
 planned-of : (P : Plan) → first (headerCauses P) ≡ 0 → Planned P
@@ -150,29 +153,28 @@ unfolding judged Sound
 sound-judged names line after s e = subst Sound (unless-next (first ((13, not (same line planNames)) ∷ [])) header after e .1) tt
 sound-judged header line after s e =
     let P = headerPlan (numbers line) in
-    let u = unless-next (first ((13, not (asks 5 5 line)) ∷ headerCauses P)) (afterLinks P 0 [] []) after e in
+    let u = unless-next (first ((13, not (asks 5 5 line)) ∷ headerCauses P)) (afterLinks (lend P [] [] []) 0) after e in
     let h = passed 13 (not (asks 5 5 line)) (first (headerCauses P)) (omega arith) (u .0) in
-    subst Sound (u .1) (sound-links P 0 [] [] (omega arith) (no-parts P (planned-of P (h .1))))
-sound-judged (weights P k w T) line after s e =
-    let u = unless-next (first (lineCauses (P .n + k) (P .p) line)) (table P k (w ++ numbers line) T) after e in
-    subst Sound (u .1) (s .0, more-weights P (s .1) line (u .0))
-sound-judged (table P k w T) line after s e =
-    let u = unless-next (first (lineCauses (P .p) (P .p) line)) (afterLinks P (suc k) w (T ++ numbers line)) after e in
-    subst Sound (u .1) (sound-links P (suc k) w (T ++ numbers line) (omega (arith, s .0)) (more-tables P (s .1) line (u .0)))
-sound-judged (product P b w T d) line after s e =
-    let u = unless-next (first (lineCauses (variables P) (P .p) line)) (afterProducts P (suc b) w T (d ++ numbers line)) after e in
-    subst Sound (u .1) (sound-products P (suc b) w T (d ++ numbers line) (omega (arith, s .0)) (more-products P (s .1) line (u .0)))
-sound-judged (entryNames P w T d) line after s e =
-    let u = unless-next (first ((13, not (same line pairNames)) ∷ [])) (entries P w T d _) after e in
-    subst Sound (u .1) (s, empty-ready P (s .planned .0))
-sound-judged (entries P w T d S) line after s e =
+    subst Sound (u .1) (sound-links (lend P [] [] []) 0 (omega arith) (no-parts P (planned-of P (h .1))))
+sound-judged (weights G k) line after s e =
+    let u = unless-next (first (lineCauses (G .numbers .n + k) (G .numbers .p) line)) (table (moreWeights G (numbers line)) k) after e in
+    subst Sound (u .1) (s .0, more-weights G (s .1) line (u .0))
+sound-judged (table G k) line after s e =
+    let u = unless-next (first (lineCauses (G .numbers .p) (G .numbers .p) line)) (afterLinks (moreTables G (numbers line)) (suc k)) after e in
+    subst Sound (u .1) (sound-links (moreTables G (numbers line)) (suc k) (omega (arith, s .0)) (more-tables G (s .1) line (u .0)))
+sound-judged (product G b) line after s e =
+    let u = unless-next (first (lineCauses (variables (G .numbers)) (G .numbers .p) line)) (afterProducts (moreProducts G (numbers line)) (suc b)) after e in
+    subst Sound (u .1) (sound-products (moreProducts G (numbers line)) (suc b) (omega (arith, s .0)) (more-products G (s .1) line (u .0)))
+sound-judged (entryNames G) line after s e =
+    let u = unless-next (first ((13, not (same line pairNames)) ∷ [])) (entries G (emptyStore (G .numbers))) after e in
+    subst Sound (u .1) (s, empty-ready (G .numbers) (s .planned .0))
+sound-judged (entries G S) line after s e =
     let i = at (numbers line) 0 in
     let v = at (numbers line) 1 in
-    let u = unless-next (first (entryCauses P w T d S line)) (entries P w T d (entered P w T d S line)) after e in
-    let h = passed 13 (not (asks 5 2 line)) (first (fileCauses (P .p) (P .s) (P .n) (P .m) (P .t) w T d S i v)) (omega arith) (u .0) in
-    let within : Within P = s .0 .planned .0 in
-    subst Sound (u .1)
-    (s .0, filed-ready P w T d S i v within (lent P (s .0)) (omega (arith, value-below P w T d S i v (h .1), within .radix-high)) (s .1))
+    let u = unless-next (first (entryCauses G S line)) (entries G (entered G S line)) after e in
+    let h = passed 13 (not (asks 5 2 line)) (first (fileCauses G S i v)) (omega arith) (u .0) in
+    let within : Within (G .numbers) = s .0 .planned .0 in
+    subst Sound (u .1) (s .0, filed-ready G S i v within (lent G (s .0)) (omega (arith, unmet G S i v (h .1) .below, within .radix-high)) (s .1))
 
 sound-push : (state : State) (x : ℕ) → SoundState state → SoundState (push state x)
 unfolding push SoundState

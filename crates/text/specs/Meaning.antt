@@ -1,14 +1,16 @@
 -- 01, "The filing program": the meaning of a text, from the bytes of standard input to the bytes of standard output.
 -- "Names line, values line; per link a line of weights, then a line with its table; a d line per product; names line `entry value`, then
--- entries to the end." A text is a fold over its lines with a place: what the next line is to be, with what has been read so far.
+-- entries to the end." A text is a fold over its lines with a place: what the next line is to be, with what has been read so far, as the parts of
+-- a plan as lent.
 --     Place               where a line stands
 --     Judged              the judgement of a line: the next place, or the cause of a refusal
 --     planNames, pairNames     the two names lines
---     afterProducts P b .., afterLinks P k ..      the place after b of the products, and after k of the links
+--     moreWeights G xs, moreTables G xs, moreProducts G xs      the plan as read so far, with the numbers of one line more
+--     afterProducts G b, afterLinks G k      the place after b of the products, and after k of the links
 --     unless k place      that place, or cause k where k is not 0
 --     headerCauses P, headerPlan ns      the values line: its causes but 13, and the plan that its five numbers ask for
 --     lineCauses n p line      the causes of a line of n residues modulo p
---     entryCauses .. line, entered .. line     an entry line: its causes, and the store after it
+--     entryCauses G S line, entered G S line     an entry line: its causes, and the store after it
 --     judged place line   the judgement of a line: one clause for each kind of line
 --     ended place j       what is printed when the text ends before line j: the listing after entries, else 13 for the missing line j
 --     from j place pieces      what is printed of the lines from line j on
@@ -24,6 +26,7 @@ use Rattle.field.specs.Rows.{allBelow}
 use Rattle.plan.specs.declared.numbers.Plan.{Plan}
 use Rattle.plan.specs.Causes.{first}
 use Rattle.plan.specs.Numbers.{variables, columns, numberCauses, plan}
+use Rattle.plan.specs.Parts.{Given, lend}
 use Rattle.store.specs.Calls.{emptyStore, fileCauses, filed, coefficients}
 use Rattle.listing.specs.Printed.{listing, refused}
 use Rattle.lines.specs.Lines.{cutAt, asks, numbers, same}
@@ -31,11 +34,11 @@ use Rattle.lines.specs.Lines.{cutAt, asks, numbers, same}
 pub data Place : Type 0 where
   names : Place
   header : Place
-  weights : Plan → ℕ → List ℕ → List ℕ → Place
-  table : Plan → ℕ → List ℕ → List ℕ → Place
-  product : Plan → ℕ → List ℕ → List ℕ → List ℕ → Place
-  entryNames : Plan → List ℕ → List ℕ → List ℕ → Place
-  entries : Plan → List ℕ → List ℕ → List ℕ → List ℕ → Place
+  weights : Given → ℕ → Place
+  table : Given → ℕ → Place
+  product : Given → ℕ → Place
+  entryNames : Given → Place
+  entries : Given → List ℕ → Place
 
 pub data Judged : Type 0 where
   next : Place → Judged
@@ -48,12 +51,22 @@ planNames = 112 ∷ 32 ∷ 115 ∷ 32 ∷ 110 ∷ 32 ∷ 108 ∷ 105 ∷ 110 ∷
 abbrev pub pairNames : List ℕ
 pairNames = 101 ∷ 110 ∷ 116 ∷ 114 ∷ 121 ∷ 32 ∷ 118 ∷ 97 ∷ 108 ∷ 117 ∷ 101 ∷ []
 
--- the place after b of the products, and after k of the links
-abbrev pub afterProducts : Plan → ℕ → List ℕ → List ℕ → List ℕ → Place
-afterProducts P b w T d = cond (ltb b (P .t)) (product P b w T d) (entryNames P w T d)
+-- what has been read of a part grows at its end
+abbrev pub moreWeights : Given → List ℕ → Given
+moreWeights G xs = lend (G .numbers) (G .weights ++ xs) (G .tables) (G .products)
 
-abbrev pub afterLinks : Plan → ℕ → List ℕ → List ℕ → Place
-afterLinks P k w T = cond (ltb k (P .m)) (weights P k w T) (afterProducts P 0 w T [])
+abbrev pub moreTables : Given → List ℕ → Given
+moreTables G xs = lend (G .numbers) (G .weights) (G .tables ++ xs) (G .products)
+
+abbrev pub moreProducts : Given → List ℕ → Given
+moreProducts G xs = lend (G .numbers) (G .weights) (G .tables) (G .products ++ xs)
+
+-- the place after b of the products, and after k of the links
+abbrev pub afterProducts : Given → ℕ → Place
+afterProducts G b = cond (ltb b (G .numbers .t)) (product G b) (entryNames G)
+
+abbrev pub afterLinks : Given → ℕ → Place
+afterLinks G k = cond (ltb k (G .numbers .m)) (weights G k) (afterProducts G 0)
 
 -- the next place where the refusal is 0
 abbrev pub unless : ℕ → Place → Judged
@@ -72,37 +85,33 @@ abbrev pub lineCauses : ℕ → ℕ → List ℕ → List (ℕ × Bool)
 lineCauses n p bytes = (13, not (asks 5 n bytes)) ∷ (5, not (allBelow p (numbers bytes))) ∷ []
 
 -- an entry line: 13, then the causes of filing it; and the store with the entry filed
-abbrev pub entryCauses : Plan → List ℕ → List ℕ → List ℕ → List ℕ → List ℕ → List (ℕ × Bool)
-entryCauses P w T d S bytes =
-    (13, not (asks 5 2 bytes)) ∷ fileCauses (P .p) (P .s) (P .n) (P .m) (P .t) w T d S (at (numbers bytes) 0) (at (numbers bytes) 1)
+abbrev pub entryCauses : Given → List ℕ → List ℕ → List (ℕ × Bool)
+entryCauses G S bytes = (13, not (asks 5 2 bytes)) ∷ fileCauses G S (at (numbers bytes) 0) (at (numbers bytes) 1)
 
-abbrev pub entered : Plan → List ℕ → List ℕ → List ℕ → List ℕ → List ℕ → List ℕ
-entered P w T d S bytes = filed P w T d S (at (numbers bytes) 0) (at (numbers bytes) 1)
+abbrev pub entered : Given → List ℕ → List ℕ → List ℕ
+entered G S bytes = filed G S (at (numbers bytes) 0) (at (numbers bytes) 1)
 
 -- 13 first for its line, then the place's own causes
 unfoldable pub judged : Place → List ℕ → Judged
 judged names bytes = unless (first ((13, not (same bytes planNames)) ∷ [])) header
 judged header bytes =
     let P = headerPlan (numbers bytes) in
-    unless (first ((13, not (asks 5 5 bytes)) ∷ headerCauses P)) (afterLinks P 0 [] [])
-judged (weights P k w T) bytes =
-    unless (first (lineCauses (P .n + k) (P .p) bytes)) (table P k (w ++ numbers bytes) T)
-judged (table P k w T) bytes =
-    unless (first (lineCauses (P .p) (P .p) bytes)) (afterLinks P (suc k) w (T ++ numbers bytes))
-judged (product P b w T d) bytes =
-    unless (first (lineCauses (variables P) (P .p) bytes)) (afterProducts P (suc b) w T (d ++ numbers bytes))
-judged (entryNames P w T d) bytes =
-    unless (first ((13, not (same bytes pairNames)) ∷ [])) (entries P w T d (emptyStore P))
-judged (entries P w T d S) bytes = unless (first (entryCauses P w T d S bytes)) (entries P w T d (entered P w T d S bytes))
+    unless (first ((13, not (asks 5 5 bytes)) ∷ headerCauses P)) (afterLinks (lend P [] [] []) 0)
+judged (weights G k) bytes = unless (first (lineCauses (G .numbers .n + k) (G .numbers .p) bytes)) (table (moreWeights G (numbers bytes)) k)
+judged (table G k) bytes = unless (first (lineCauses (G .numbers .p) (G .numbers .p) bytes)) (afterLinks (moreTables G (numbers bytes)) (suc k))
+judged (product G b) bytes =
+    unless (first (lineCauses (variables (G .numbers)) (G .numbers .p) bytes)) (afterProducts (moreProducts G (numbers bytes)) (suc b))
+judged (entryNames G) bytes = unless (first ((13, not (same bytes pairNames)) ∷ [])) (entries G (emptyStore (G .numbers)))
+judged (entries G S) bytes = unless (first (entryCauses G S bytes)) (entries G (entered G S bytes))
 
 unfoldable pub ended : Place → ℕ → List ℕ
 ended names j = refused 13 j
 ended header j = refused 13 j
-ended (weights P k w T) j = refused 13 j
-ended (table P k w T) j = refused 13 j
-ended (product P b w T d) j = refused 13 j
-ended (entryNames P w T d) j = refused 13 j
-ended (entries P w T d S) j = listing P w d (coefficients (columns P) S)
+ended (weights G k) j = refused 13 j
+ended (table G k) j = refused 13 j
+ended (product G b) j = refused 13 j
+ended (entryNames G) j = refused 13 j
+ended (entries G S) j = listing (G .numbers) (G .weights) (G .products) (coefficients (columns (G .numbers)) S)
 
 -- the lines from line j on: each piece but the last is a whole line; the last is what follows the last LF, a line without its LF unless empty
 unfoldable pub from : ℕ → Place → List (List ℕ) → List ℕ

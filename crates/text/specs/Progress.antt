@@ -6,12 +6,13 @@
 --     rejudged o line             the judgement of a line after the judgement o of those before it
 --     stated j held o             the definition's state after the judgement o: line j with the bytes held of it, or stopped there
 --     stateOf state line w T d S  the definition's state, over the bytes of the line and the buffers
---     BufferSizes w T d S                the buffers are as large as the text may need
-use mathlib.Core.List.{List}
+--     BufferSizes w T d S         the buffers are as large as the text may need
+use mathlib.Core.List.{List, []}
 use Prim.Native.Nat.{ℕ, _+_, _*_, _≤_, _<_}
 use lib.ListN.{length, take}
 use Rattle.plan.specs.declared.numbers.Plan.{Plan}
 use Rattle.plan.specs.Numbers.{columns, Within}
+use Rattle.plan.specs.Parts.{lend, storeSize}
 use Rattle.text.specs.Meaning.{names, header, weights, table, product, entryNames, entries, Judged, next, cause, judged}
 use Rattle.text.specs.Streaming as streaming
 use Rattle.text.specs.declared.turns.State.{State}
@@ -21,11 +22,11 @@ use Rattle.text.specs.declared.stages.Stage.the-variants.{Names, Header,
 abbrev pub judgedOf : Stage → List ℕ → List ℕ → List ℕ → List ℕ → Judged
 judgedOf Names w T d S = next names
 judgedOf Header w T d S = next header
-judgedOf (Weights P k a b) w T d S = next (weights P k (take a w) (take b T))
-judgedOf (Table P k a b) w T d S = next (table P k (take a w) (take b T))
-judgedOf (Product P j a b c) w T d S = next (product P j (take a w) (take b T) (take c d))
-judgedOf (EntryNames P a b c) w T d S = next (entryNames P (take a w) (take b T) (take c d))
-judgedOf (Entries P a b c) w T d S = next (entries P (take a w) (take b T) (take c d) (take (columns P * (columns P + 1)) S))
+judgedOf (Weights P k a b) w T d S = next (weights (lend P (take a w) (take b T) []) k)
+judgedOf (Table P k a b) w T d S = next (table (lend P (take a w) (take b T) []) k)
+judgedOf (Product P j a b c) w T d S = next (product (lend P (take a w) (take b T) (take c d)) j)
+judgedOf (EntryNames P a b c) w T d S = next (entryNames (lend P (take a w) (take b T) (take c d)))
+judgedOf (Entries P a b c) w T d S = next (entries (lend P (take a w) (take b T) (take c d)) (take (storeSize (columns P)) S))
 judgedOf (Stopped k) w T d S = cause k
 
 -- the plan of a text: within its limits, and C at most 255

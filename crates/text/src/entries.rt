@@ -1,27 +1,19 @@
 // The entries of a text: the names line that empties the store, and the filing of each entry as it is read.
 ghost use mathlib.Core.Path.{_≡_};
 ghost use mathlib.Core.List.{List};
-ghost use Prim.Native.Nat.{ℕ, _+_, _*_, _≤_};
+ghost use Prim.Native.Nat.{ℕ, _≤_};
 ghost use lib.ListN.{length, take, replicate};
 ghost use Rattle.plan.specs.Numbers.{columns};
+ghost use Rattle.plan.specs.Parts.{lend, storeSize};
 ghost use Rattle.text.specs.Meaning as meaning;
 ghost use Rattle.plan.specs.Causes.{first, result, numberOf};
 ghost use Rattle.store.specs.Calls.{answerOf};
-ghost use Rattle.text.specs.Progress.{judgedOf, Planned, Fits};
+ghost use Rattle.text.specs.Progress.{judgedOf, Fits};
 use crate::stages::Stage;
 use lines::read_line;
 use lines::same;
 use plan::Plan;
 use store::Filed;
-
-// The size of the store, C rows of C + 1 bytes.
-pub fn store_size(plan: Plan) -> usize
-    requires { ⌜ Planned plan ⌝ }
-    ensures { λ r. ⌜ (r ≡ columns plan * (columns plan + 1)) × (r ≤ 65280) ⌝ }
-{
-    let c = plan.columns();
-    c * (c + 1)
-}
 
 // All zeros.
 fn clear(store: &mut [u8])
@@ -39,12 +31,12 @@ pub fn pair_line(plan: Plan, a: usize, b: usize, c: usize, line: &[u8], store: &
     requires { ⌜ Fits (Stage.EntryNames plan a b c) ⌝ }
     requires { ⌜ 65536 ≤ length (now store) ⌝ }
     ensures { λ r. ⌜ Fits r ⌝ }
-    ensures { λ r. ⌜ ((w T d : List ℕ) → judgedOf r w T d (now (store .exit)) ≡ meaning.judged (meaning.entryNames plan (take a w) (take b T) (take c d)) (now (line .entry))) ⌝ }
+    ensures { λ r. ⌜ ((w T d : List ℕ) → judgedOf r w T d (now (store .exit)) ≡ meaning.judged (meaning.entryNames (lend plan (take a w) (take b T) (take c d))) (now (line .entry))) ⌝ }
 {
     if !same(line, b"entry value") {
         return Stage::Stopped(13);
     }
-    let size = store_size(plan);
+    let size = store::store_size(plan.columns());
     clear(&mut store[..size]);
     Stage::Entries(plan, a, b, c)
 }
@@ -69,8 +61,8 @@ fn entry_line(
     d: &[u8],
     store: &mut [u8],
 ) -> u8
-    ensures { λ r. ⌜ r ≡ first (meaning.entryCauses plan (now (weights .entry)) (now (tables .entry)) (now (d .entry)) (now (store .entry)) (now (line .entry))) ⌝ }
-    ensures { λ r. ⌜ now (store .exit) ≡ result r (meaning.entered plan (now (weights .entry)) (now (tables .entry)) (now (d .entry)) (now (store .entry)) (now (line .entry))) (now (store .entry)) ⌝ }
+    ensures { λ r. ⌜ r ≡ first (meaning.entryCauses (lend plan (now (weights .entry)) (now (tables .entry)) (now (d .entry))) (now (store .entry)) (now (line .entry))) ⌝ }
+    ensures { λ r. ⌜ now (store .exit) ≡ result r (meaning.entered (lend plan (now (weights .entry)) (now (tables .entry)) (now (d .entry))) (now (store .entry)) (now (line .entry))) (now (store .entry)) ⌝ }
 {
     let mut v = [0usize; 2];
     if !read_line(line, 5, &mut v) {
@@ -108,9 +100,9 @@ pub fn entries_line(
     requires { ⌜ (a ≤ length (now weights)) × (b ≤ length (now tables)) × (c ≤ length (now d)) ⌝ }
     requires { ⌜ 65536 ≤ length (now store) ⌝ }
     ensures { λ r. ⌜ Fits r ⌝ }
-    ensures { λ r. ⌜ judgedOf r (now (weights .entry)) (now (tables .entry)) (now (d .entry)) (now (store .exit)) ≡ meaning.judged (meaning.entries plan (take a (now (weights .entry))) (take b (now (tables .entry))) (take c (now (d .entry))) (take (columns plan * (columns plan + 1)) (now (store .entry)))) (now (line .entry)) ⌝ }
+    ensures { λ r. ⌜ judgedOf r (now (weights .entry)) (now (tables .entry)) (now (d .entry)) (now (store .exit)) ≡ meaning.judged (meaning.entries (lend plan (take a (now (weights .entry))) (take b (now (tables .entry))) (take c (now (d .entry)))) (take (storeSize (columns plan)) (now (store .entry)))) (now (line .entry)) ⌝ }
 {
-    let size = store_size(plan);
+    let size = store::store_size(plan.columns());
     let cause = entry_line(
         plan,
         line,

@@ -5,6 +5,7 @@ ghost use Prim.Native.Nat.{ℕ, _+_, _*_, _≤_, _<_};
 ghost use lib.ListN.{length, take};
 ghost use Rattle.lists.specs.Places.{placed};
 ghost use Rattle.plan.specs.Causes.{first, result};
+ghost use Rattle.plan.specs.Parts.{lend};
 ghost use Rattle.lines.specs.Lines.{numbers};
 ghost use Rattle.text.specs.Meaning as meaning;
 ghost use Rattle.text.specs.Progress.{judgedOf, Planned, Fits};
@@ -32,7 +33,7 @@ fn after_products(plan: Plan, j: usize, a: usize, b: usize, c: usize) -> Stage
     requires { ⌜ Planned plan ⌝ }
     requires { ⌜ (a ≤ 4096) × (b ≤ 16384) × (c ≤ 64 * j) × (j ≤ 32) ⌝ }
     ensures { λ r. ⌜ Fits r ⌝ }
-    ensures { λ r. ⌜ ((w T d S : List ℕ) → judgedOf r w T d S ≡ meaning.next (meaning.afterProducts plan j (take a w) (take b T) (take c d))) ⌝ }
+    ensures { λ r. ⌜ ((w T d S : List ℕ) → judgedOf r w T d S ≡ meaning.next (meaning.afterProducts (lend plan (take a w) (take b T) (take c d)) j)) ⌝ }
 {
     if j < plan.t {
         return Stage::Product(plan, j, a, b, c);
@@ -45,7 +46,7 @@ fn after_links(plan: Plan, k: usize, a: usize, b: usize) -> Stage
     requires { ⌜ Planned plan ⌝ }
     requires { ⌜ (a ≤ 64 * k) × (b ≤ 251 * k) × (k ≤ 63) ⌝ }
     ensures { λ r. ⌜ Fits r ⌝ }
-    ensures { λ r. ⌜ ((w T d S : List ℕ) → judgedOf r w T d S ≡ meaning.next (meaning.afterLinks plan k (take a w) (take b T))) ⌝ }
+    ensures { λ r. ⌜ ((w T d S : List ℕ) → judgedOf r w T d S ≡ meaning.next (meaning.afterLinks (lend plan (take a w) (take b T) []) k)) ⌝ }
 {
     if k < plan.m {
         return Stage::Weights(plan, k, a, b);
@@ -112,7 +113,7 @@ pub fn weights_line(
     requires { ⌜ Fits (Stage.Weights plan k a b) ⌝ }
     requires { ⌜ 4096 ≤ length (now weights) ⌝ }
     ensures { λ r. ⌜ Fits r ⌝ }
-    ensures { λ r. ⌜ ((T d S : List ℕ) → judgedOf r (now (weights .exit)) T d S ≡ meaning.judged (meaning.weights plan k (take a (now (weights .entry))) (take b T)) (now (line .entry))) ⌝ }
+    ensures { λ r. ⌜ ((T d S : List ℕ) → judgedOf r (now (weights .exit)) T d S ≡ meaning.judged (meaning.weights (lend plan (take a (now (weights .entry))) (take b T) []) k) (now (line .entry))) ⌝ }
 {
     let count = plan.n + k;
     let cause = part_line(line, plan.p, a, count, weights);
@@ -127,7 +128,7 @@ pub fn table_line(plan: Plan, k: usize, a: usize, b: usize, line: &[u8], tables:
     requires { ⌜ Fits (Stage.Table plan k a b) ⌝ }
     requires { ⌜ 16384 ≤ length (now tables) ⌝ }
     ensures { λ r. ⌜ Fits r ⌝ }
-    ensures { λ r. ⌜ ((w d S : List ℕ) → judgedOf r w (now (tables .exit)) d S ≡ meaning.judged (meaning.table plan k (take a w) (take b (now (tables .entry)))) (now (line .entry))) ⌝ }
+    ensures { λ r. ⌜ ((w d S : List ℕ) → judgedOf r w (now (tables .exit)) d S ≡ meaning.judged (meaning.table (lend plan (take a w) (take b (now (tables .entry))) []) k) (now (line .entry))) ⌝ }
 {
     let count = plan.p as usize;
     let cause = part_line(line, plan.p, b, count, tables);
@@ -150,7 +151,7 @@ pub fn product_line(
     requires { ⌜ Fits (Stage.Product plan j a b c) ⌝ }
     requires { ⌜ 2048 ≤ length (now d) ⌝ }
     ensures { λ r. ⌜ Fits r ⌝ }
-    ensures { λ r. ⌜ ((w T S : List ℕ) → judgedOf r w T (now (d .exit)) S ≡ meaning.judged (meaning.product plan j (take a w) (take b T) (take c (now (d .entry)))) (now (line .entry))) ⌝ }
+    ensures { λ r. ⌜ ((w T S : List ℕ) → judgedOf r w T (now (d .exit)) S ≡ meaning.judged (meaning.product (lend plan (take a w) (take b T) (take c (now (d .entry)))) j) (now (line .entry))) ⌝ }
 {
     let count = plan.n + plan.m;
     let cause = part_line(line, plan.p, c, count, d);

@@ -1,8 +1,9 @@
 -- `text::ending::print_filed` meets its contract: the coefficients are read off into a local array. Assumes nothing.
 use mathlib.Core.Path.{sym, ap, _∙_}
 use mathlib.Core.List.{List}
-use Prim.Native.Nat.{ℕ, _+_, _*_}
+use Prim.Native.Nat.{ℕ}
 use lib.Seq.{length-take-le}
+use Rattle.plan.specs.Parts.{storeSize}
 use Rattle.listing.specs.Printed.{listing}
 use Rattle.store.proofs.StoreCalls.{columns-small}
 use Rattle.text.proofs.Finishing.{read-front, read-back, read-part, read-residues, prints}
@@ -24,7 +25,7 @@ slice-aggregate-read-off c =
 read-off-requires : tie.Need-read-off-requires
 read-off-requires c κs =
     let pre = c .before .before .before .before .before .before .before .pre in
-    (columns-small _ (pre .0) (c .before .columns .ensures), (pre .1 .1 .1 .0 .places ∙ ap (λ (n : ℕ). n * (n + 1)) (sym (c .before .columns .ensures)), length-take-le _ _ (columns-small _ (pre .0) (c .before .columns .ensures))))
+    (columns-small _ (pre .0) (c .before .columns .ensures), (pre .1 .1 .1 .0 .places ∙ ap storeSize (sym (c .before .columns .ensures)), length-take-le _ _ (columns-small _ (pre .0) (c .before .columns .ensures))))
 
 array-share-prefix-beta : tie.Need-array-share-prefix-beta
 array-share-prefix-beta c =
