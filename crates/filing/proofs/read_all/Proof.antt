@@ -19,14 +19,27 @@ Inv-loop chunk₀ line₀ weights₀ tables₀ d₀ store₀ state₀ count₀ l
 abbrev μ-loop : tie.MeasureT-loop
 μ-loop chunk₀ line₀ weights₀ tables₀ d₀ store₀ state₀ count₀ last₀ chunk line weights tables d store state count last = left (toZ w64 last) count
 
+-- a turn from its test on: what was read, counted and fed; the loop, and the function's start
+abbrev counted : tie.After-feed-arg6 Inv-loop μ-loop → tie.After-count Inv-loop μ-loop
+counted c = c .before .before .before .before .before .before
+
+abbrev fed : tie.After-slice-known12 Inv-loop μ-loop → tie.After-feed Inv-loop μ-loop
+fed c = c .before .before .before .before .before .before .before .before .before .before
+
+abbrev reads : tie.After-count Inv-loop μ-loop → tie.After-read Inv-loop μ-loop
+reads c = c .before .before .before .before
+
+abbrev loop : tie.After-count Inv-loop μ-loop → tie.At-loop Inv-loop μ-loop
+loop c = reads c .before .before .before .before
+
+abbrev start : tie.At-loop Inv-loop μ-loop → tie.Start Inv-loop μ-loop
+start c = c .before .before .before .before .before .before .before .before
+
 -- there is room for the bytes of one read more
-few : (c : tie.After-count Inv-loop μ-loop) → c .before .before .before .before .before .before .before .before .loop .count + c .count .result ≤ most + 65536
+few : (c : tie.After-count Inv-loop μ-loop) → loop c .loop .count + c .count .result ≤ most + 65536
 few c =
-    let read = c .before .before .before .before .read in
-    let loop = c .before .before .before .before .before .before .before .before .loop in
-    let pre = c .before .before .before .before .before .before .before .before .before .before .before .before .before .before .before .before .pre in
-    let below : loop .count < most = ltb-true _ _ (c .before .before .before .before .before .before .if1 .taken) in
-    omega (arith, c .count .ensures .0 .0, read .kept .1 .0, loop .inv .chunk-same, pre .0 .1)
+    let below : loop c .loop .count < most = ltb-true _ _ (reads c .before .before .if1 .taken) in
+    omega (arith, c .count .ensures .0 .0, reads c .read .kept .1 .0, loop c .loop .inv .chunk-same, start (loop c) .pre .0 .1)
 
 start-requires : tie.Need-start-requires Inv-loop μ-loop
 start-requires c κs = tt
@@ -48,34 +61,28 @@ slice-aggregate-feed c = search needs
 
 feed-requires : tie.Need-feed-requires Inv-loop μ-loop
 feed-requires c κs =
-    let reading = c .before .before .before .before .before .before .before .before .before .before .before .before .before .before .loop .inv in
-    let pre = c .before .before .before .before .before .before .before .before .before .before .before .before .before .before .before .before .before .before .before .before .before .before .pre in
-    let counted = c .before .before .before .before .before .before .count .ensures .0 .1 in
-    let r = c .before .before .before .before .before .before in
-    (reading .fits, ((reading .held, omega (arith, reading .line-same, pre .0 .2), omega (arith, counted, reading .number, few r)), sizes-kept (pre .1) (reading .kept)))
+    let n = counted c in
+    let reading = loop n .loop .inv in
+    let pre = start (loop n) .pre in
+    (reading .fits, ((reading .held, omega (arith, reading .line-same, pre .0 .2), omega (arith, n .count .ensures .0 .1, reading .number, few n)), sizes-kept (pre .1) (reading .kept)))
 
 add-count : tie.Need-add-count Inv-loop μ-loop
 add-count c =
-    let r = c .before .before .before .before .before .before .before .before .before .before .before .before .before .before .before .before .before in
-    record { fits = omega (arith, few r) }
+    record { fits = omega (arith, few (counted (fed c .before))) }
 
 loop-less : tie.Need-loop-less Inv-loop μ-loop
 loop-less c =
-    let count = c .before .before .before .before .before .before .before .before .before .before .before .before .before .before .before .before .before .count in
-    let read = c .before .before .before .before .before .before .before .before .before .before .before .before .before .before .before .before .before .before .before .before .before .read in
-    let below = c .before .before .before .before .before .before .before .before .before .before .before .before .before .before .before .before .before .before .before .before .before .before .before .if1 .taken in
-    let more = c .before .before .before .before .before .before .before .before .before .before .before .before .before .before .before .before .before .before .before .before .before .before .before .before .loop-test .taken in
-    let reading = c .before .before .before .before .before .before .before .before .before .before .before .before .before .before .before .before .before .before .before .before .before .before .before .before .before .loop .inv in
-    let pre = c .before .before .before .before .before .before .before .before .before .before .before .before .before .before .before .before .before .before .before .before .before .before .before .before .before .before .before .before .before .before .before .before .before .pre in
-    left-less _ (toZ w64 (ofZ w64 (read .result))) _ _ _ more (ltb-true _ _ below) (omega (arith, pre .0 .0, reading .chunk-same, read .kept .1 .0)) (count .ensures .1)
+    let n = counted (fed c .before) in
+    let read = reads n .read in
+    let test = reads n .before .before in
+    left-less _ (toZ w64 (ofZ w64 (read .result))) _ _ _ (test .before .loop-test .taken) (ltb-true _ _ (test .if1 .taken))
+    (omega (arith, start (loop n) .pre .0 .0, loop n .loop .inv .chunk-same, read .kept .1 .0)) (n .count .ensures .1)
 
 loop-again : tie.Need-loop-again Inv-loop μ-loop
 loop-again c =
-    let feed = c .before .before .before .before .before .before .before .before .before .before .feed in
-    let count = c .before .before .before .before .before .before .before .before .before .before .before .before .before .before .before .before .before .count in
-    let read = c .before .before .before .before .before .before .before .before .before .before .before .before .before .before .before .before .before .before .before .before .before .read in
-    let reading = c .before .before .before .before .before .before .before .before .before .before .before .before .before .before .before .before .before .before .before .before .before .before .before .before .before .loop .inv in
-    reading-next reading _ _ _ _ _ _ _ _ _ (count .ensures .0 .1) (feed .ensures .0) (feed .ensures .1) (read .kept .1 .0) (feed .kept .1 .1 .0) (feed .kept .1 .1 .1)
+    let feed = fed c .feed in
+    let n = counted (fed c .before) in
+    reading-next (loop n .loop .inv) _ _ _ _ _ _ _ _ _ (n .count .ensures .0 .1) (feed .ensures .0) (feed .ensures .1) (reads n .read .kept .1 .0) (feed .kept .1 .1 .0) (feed .kept .1 .1 .1)
 
 same-length : tie.Need-same-length Inv-loop μ-loop
 same-length c = c .before .before .loop .inv .chunk-same

@@ -6,13 +6,25 @@ use Rattle.filing.proofs.Chunks.{fed-sound, printed-end, printed-none}
 use Rattle.filing.proofs.run.Statement.{statement}
 use Rattle.filing.proofs.run.Tie as tie
 
+-- where all is read, from the test of its end, and the function's start
+abbrev read : tie.After-struct-told → tie.After-read-all
+read c = c .before .before .before .before .before .before .before .before .before .before .before .before .before .before
+
+abbrev start : tie.After-read-all → tie.Start
+start c = c .before .before .before .before .before .before .before .before .before .before .before .before .before .before .before
+
+-- the end of the text, from what is lent to print it
+abbrev ends : tie.After-print-end-arg7 → tie.Then1
+ends c = c .before .before .before .before .before .before .before
+
 read-all-requires : tie.Need-read-all-requires
 read-all-requires c κs = search needs
 
 print-end-requires : tie.Need-print-end-requires
 print-end-requires c κs =
-    let read-all = c .before .before .before .before .before .before .before .before .before .before .before .before .before .before .before .before .before .before .before .before .before .before .read-all in
-    let pre = c .before .before .before .before .before .before .before .before .before .before .before .before .before .before .before .before .before .before .before .before .before .before .before .before .before .before .before .before .before .before .before .before .before .before .before .before .before .pre in
+    let all = read (ends c .before) in
+    let read-all = all .read-all in
+    let pre = start all .pre in
     (read-all .ensures .0, (fed-sound (read-all .ensures .1 .0), (omega (arith, pre .0 .2, read-all .kept .1 .0), (sizes-kept (pre .1 .0) (read-all .kept .1 .1), pre .1 .1))))
 
 slice-aggregate-fail : tie.Need-slice-aggregate-fail
@@ -47,10 +59,9 @@ same-length-8 c = search needs
 
 returns : tie.Need-returns
 returns c =
-    let print-end = c .before .before .before .before .print-end in
-    let is-end = c .before .before .before .before .before .before .before .before .before .before .before .before .if1 .taken in
-    let read-all = c .before .before .before .before .before .before .before .before .before .before .before .before .before .before .before .before .before .before .before .before .before .before .before .before .before .before .before .read-all in
-    printed-end (read-all .ensures .1 .0) _ _ _ (search needs) is-end (print-end .ensures)
+    let printed = c .before .before .before .before in
+    let end = ends (printed .before) in
+    printed-end (read (end .before) .read-all .ensures .1 .0) _ _ _ (search needs) (end .if1 .taken) (printed .print-end .ensures)
 
 same-length-9 : tie.Need-same-length-9
 same-length-9 c = search needs
@@ -72,9 +83,8 @@ same-length-14 c = search needs
 
 returns-2 : tie.Need-returns-2
 returns-2 c =
-    let not-end = c .before .before .if1 .left in
-    let read-all = c .before .before .before .before .before .before .before .before .before .before .before .before .before .before .before .before .before .read-all in
-    printed-none (read-all .ensures .1 .0) _ _ not-end
+    let broken = c .before .before in
+    printed-none (read (broken .before) .read-all .ensures .1 .0) _ _ (broken .if1 .left)
 
 pub run-spec : {M : Type 1} → statement M
 run-spec =

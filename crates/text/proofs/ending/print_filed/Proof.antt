@@ -11,6 +11,13 @@ use borrow.Author.Needs.{needs}
 use Rattle.text.proofs.ending.print_filed.Statement.{statement}
 use Rattle.text.proofs.ending.print_filed.Tie as tie
 
+abbrev start : tie.After-columns → tie.Start
+start c = c .before .before .before .before .before .before
+
+-- where the columns are known, from where the coefficients are read off
+abbrev sized : tie.After-read-off → tie.After-columns
+sized c = c .before .before
+
 columns-requires : tie.Need-columns-requires
 columns-requires c κs = search needs
 
@@ -19,33 +26,33 @@ array-borrow-prefix-beta c = search needs
 
 slice-aggregate-read-off : tie.Need-slice-aggregate-read-off
 slice-aggregate-read-off c =
-    let pre = c .before .before .before .before .before .before .before .pre in
-    sym (length-take-le _ _ (columns-small _ (pre .0) (c .before .columns .ensures)))
+    sym (length-take-le _ _ (columns-small _ (start (c .before) .pre .0) (c .before .columns .ensures)))
 
 read-off-requires : tie.Need-read-off-requires
 read-off-requires c κs =
-    let pre = c .before .before .before .before .before .before .before .pre in
-    (columns-small _ (pre .0) (c .before .columns .ensures), (pre .1 .1 .1 .0 .places ∙ ap storeSize (sym (c .before .columns .ensures)), length-take-le _ _ (columns-small _ (pre .0) (c .before .columns .ensures))))
+    let pre = start (c .before) .pre in
+    let small = columns-small _ (pre .0) (c .before .columns .ensures) in
+    (small, (pre .1 .1 .1 .0 .places ∙ ap storeSize (sym (c .before .columns .ensures)), length-take-le _ _ small))
 
 array-share-prefix-beta : tie.Need-array-share-prefix-beta
 array-share-prefix-beta c =
-    let args = c .before .before .before .before .before .before .before .before .before .args in
-    let columns = c .before .before .before .columns in
-    read-front (args .plan) (args .store .now) _ _ _ (columns .ensures) (c .before .read-off .ensures)
+    let columns = sized (c .before) in
+    let args = start columns .args in
+    read-front (args .plan) (args .store .now) _ _ _ (columns .columns .ensures) (c .before .read-off .ensures)
 
 slice-aggregate-print-program : tie.Need-slice-aggregate-print-program
 slice-aggregate-print-program c =
-    let args = c .before .before .before .before .before .before .before .before .before .before .args in
-    let columns = c .before .before .before .before .columns in
-    read-part (args .plan) (args .store .now) _ _ _ (columns .ensures) (c .before .before .read-off .ensures)
+    let read = c .before .before in
+    let args = start (sized read) .args in
+    read-part (args .plan) (args .store .now) _ _ _ (sized read .columns .ensures) (read .read-off .ensures)
 
 print-program-requires : tie.Need-print-program-requires
 print-program-requires c κs =
-    let pre = c .before .before .before .before .before .before .before .before .before .before .before .before .pre in
-    let args = c .before .before .before .before .before .before .before .before .before .before .before .before .args in
-    let columns = c .before .before .before .before .before .before .columns in
-    let read-off = c .before .before .before .before .read-off in
-    (pre .0, (pre .1 .0, (pre .1 .1 .0, (read-residues (args .plan) (args .store .now) _ _ _ (columns .ensures) (read-off .ensures) (pre .0) (pre .1 .1 .1 .0), pre .1 .1 .1 .1))))
+    let read = c .before .before .before .before in
+    let s = start (sized read) in
+    let pre = s .pre in
+    let β = read-residues (s .args .plan) (s .args .store .now) _ _ _ (sized read .columns .ensures) (read .read-off .ensures) (pre .0) (pre .1 .1 .1 .0) in
+    (pre .0, (pre .1 .0, (pre .1 .1 .0, (β, pre .1 .1 .1 .1))))
 
 same-length : tie.Need-same-length
 same-length c = search needs
@@ -55,11 +62,11 @@ same-length-2 c = search needs
 
 returns : tie.Need-returns
 returns c =
-    let args = c .before .before .before .before .before .before .before .before .before .before .before .before .before .before .before .before .before .args in
-    let columns = c .before .before .before .before .before .before .before .before .before .before .before .columns in
-    let read-off = c .before .before .before .before .before .before .before .before .before .read-off in
-    let print-program = c .before .before .before .before .print-program in
-    prints _ _ _ _ _ (ap (λ (β : List ℕ). listing (args .plan) (args .weights .now) (args .d .now) β) (read-back (args .plan) (args .store .now) _ _ _ (columns .ensures) (read-off .ensures))) (print-program .ensures .0) (print-program .ensures .1)
+    let printed = c .before .before .before .before in
+    let read = printed .before .before .before .before .before in
+    let args = start (sized read) .args in
+    let β = read-back (args .plan) (args .store .now) _ _ _ (sized read .columns .ensures) (read .read-off .ensures) in
+    prints _ _ _ _ _ (ap (listing (args .plan) (args .weights .now) (args .d .now)) β) (printed .print-program .ensures .0) (printed .print-program .ensures .1)
 
 pub print-filed-spec : {M : Type 1} → statement M
 print-filed-spec =
