@@ -15,13 +15,13 @@ use native.Mathlib.Omega.{arith}
 use lib.Dec.{eqb, leb, ltb}
 use lib.ListN.{length, take, length-set}
 use lib.Seq.{take-all, take-suc-set, append-snoc}
-use borrow.Author.Tests.{lt-ltb, le-ltb, ltb-true, leb-true, leb-false, eq-eqb, ne-eqb, eqb-true}
+use borrow.Author.Tests.{lt-ltb, le-ltb, ltb-true, leb-true, leb-false, ne-eqb, eqb-true}
 use Rattle.lists.proofs.Tests.{both-true, and-false}
-use Rattle.lines.specs.Lines.{cutAt, number, isNumeral, allNumerals, asks, numbers}
+use Rattle.lines.specs.Lines.{cutAt, number, allNumerals, asks, numbers}
 use Rattle.lines.specs.Words.{word, wordsFrom, numeralAt, nextPlace, kept, filled, complete}
 use Rattle.lines.specs.declared.numerals.Numeral.{Numeral}
 use Rattle.lines.specs.declared.numerals.Numeral.the-variants.{Number, Malformed}
-use Rattle.lines.proofs.WordLaws.{piece-past, pieces-past, pieces-all, pieces-step}
+use Rattle.lines.proofs.WordLaws.{piece-past, pieces-past, pieces-all}
 use Rattle.lines.proofs.DigitLaws.{empty-word}
 use Rattle.lines.proofs.NumeralLaws.{found}
 use Rattle.lines.proofs.LineLaws.{next-place, words-found, counted, counted-start, counted-none, counted-full, counted-next, counted-end}

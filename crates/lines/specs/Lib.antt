@@ -1,5 +1,4 @@
--- The definitions of `lines`. What a line of numbers is:
+-- The definitions of `lines`. What a reader must believe: what a line of numbers is.
 pub mod Lines
-
--- How the code reads one:
+-- What only serves the code: the words of a line from a place on, and how a line is read.
 pub mod Words

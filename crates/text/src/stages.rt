@@ -93,12 +93,7 @@ fn part_line(line: &[u8], p: u8, from: usize, count: usize, buffer: &mut [u8]) -
 {
     let mut read = numbers_buffer();
     let end = from + count;
-    read_part(
-        line,
-        p as usize,
-        &mut read[..count],
-        &mut buffer[from..end],
-    )
+    read_part(line, p as usize, &mut read[..count], &mut buffer[from..end])
 }
 
 // A line of link weights.

@@ -1,6 +1,6 @@
 -- `lines::numerals::piece_end` meets its contract: the piece at `at` ends where the piece at `end` does. Assumes nothing.
 use mathlib.Core.Path.{_≡_, refl}
-use Prim.Native.Nat.{_+_, _-_, _≤_}
+use Prim.Native.Nat.{_+_, _-_}
 use native.Mathlib.Omega.{arith}
 use lib.ListN.{length}
 use Rattle.lines.specs.Words.{piece}

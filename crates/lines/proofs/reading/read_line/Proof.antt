@@ -55,7 +55,7 @@ use denote.Triple.Clauses.{Lasts, ensured, lasts}
 use denote.Triple.Walked.{says, needs, Stays, stay-none, stay-none-slice, stay-slice, walkOf, goes-none, goes-none-slice, goes-slice, Walks, ends-at, walked, walk-meets}
 use denote.Exit.{yes}
 use Rattle.lines.specs.Lines.{asks, numbers}
-use Rattle.lines.specs.Words.{numeralAt, nextPlace, advanced, kept, filled, complete as completeIs}
+use Rattle.lines.specs.Words.{numeralAt, advanced, kept, filled, complete as completeIs}
 use Rattle.lines.specs.declared.cursor.Cursor.{Cursor}
 use Rattle.lines.specs.declared.numerals.Numeral.{Numeral}
 use Rattle.lines.proofs.Again.{LentAgain, lends-again, comes-back}

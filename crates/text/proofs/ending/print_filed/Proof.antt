@@ -1,7 +1,5 @@
 -- `text::ending::print_filed` meets its contract: the coefficients are read off into a local array. Assumes nothing.
 use mathlib.Core.Path.{sym, ap, _∙_}
-use mathlib.Core.List.{List}
-use Prim.Native.Nat.{ℕ}
 use lib.Seq.{length-take-le}
 use Rattle.plan.specs.Parts.{storeSize}
 use Rattle.listing.specs.Printed.{listing}
