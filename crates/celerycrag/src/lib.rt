@@ -4,12 +4,12 @@
 // alone. include/celerycrag.h documents each call. Stands on `plan`, `store`, `program` and `listing`. Renders 01, "Turned down", for a
 // host: of causes 1 to 12 the number returned and what is left as it was, in the words of the contracts below.
 ghost use mathlib.Core.Path.{_≡_};
-ghost use mathlib.Core.Bool.{true};
 ghost use mathlib.Core.List.{[]};
 ghost use Prim.Native.Nat.{_*_};
 ghost use Rattle.plan.specs.Causes.{first, result, numberOf};
 ghost use Rattle.plan.specs.Numbers.{plan, columns};
-ghost use Rattle.plan.specs.Parts.{callCauses};
+ghost use Rattle.plan.specs.Parts.{given, callCauses};
+ghost use Rattle.plan.specs.declared.admission.Own.the-variants.{Nothing};
 ghost use Rattle.plan.specs.Rows as rows;
 ghost use Rattle.store.specs.Calls as stores;
 ghost use Rattle.program.specs.Layout.{stepCount};
@@ -29,7 +29,7 @@ pub extern "C" fn celery_check(
     tables: &[u8],
     d: &[u8],
 ) -> u8
-    ensures { λ r. ⌜ r ≡ first (callCauses p s n m t (now (weights .entry)) (now (tables .entry)) (now (d .entry)) (λ _. true) (λ _. [])) ⌝ }
+    ensures { λ r. ⌜ r ≡ first (callCauses (given p s n m t (now (weights .entry)) (now (tables .entry)) (now (d .entry))) Nothing (λ _. [])) ⌝ }
 {
     plan::check(p, s, n, m, t, weights, tables, d)
 }
@@ -48,8 +48,8 @@ pub extern "C" fn celery_row(
     entry: usize,
     row: &mut [u8],
 ) -> u8
-    ensures { λ r. ⌜ r ≡ first (rows.rowCauses p s n m t (now (weights .entry)) (now (tables .entry)) (now (d .entry)) entry (now (row .entry))) ⌝ }
-    ensures { λ r. ⌜ now (row .exit) ≡ result r (rows.row (plan p s n m t) (now (weights .entry)) (now (tables .entry)) (now (d .entry)) entry) (now (row .entry)) ⌝ }
+    ensures { λ r. ⌜ r ≡ first (rows.rowCauses (given p s n m t (now (weights .entry)) (now (tables .entry)) (now (d .entry))) entry (now (row .entry))) ⌝ }
+    ensures { λ r. ⌜ now (row .exit) ≡ result r (rows.row (given p s n m t (now (weights .entry)) (now (tables .entry)) (now (d .entry))) entry) (now (row .entry)) ⌝ }
 {
     plan::row(p, s, n, m, t, weights, tables, d, entry, row)
 }
@@ -67,7 +67,7 @@ pub extern "C" fn celery_test(
     d: &[u8],
     store: &[u8],
 ) -> u8
-    ensures { λ r. ⌜ r ≡ first (stores.testCauses p s n m t (now (weights .entry)) (now (tables .entry)) (now (d .entry)) (now (store .entry))) ⌝ }
+    ensures { λ r. ⌜ r ≡ first (stores.testCauses (given p s n m t (now (weights .entry)) (now (tables .entry)) (now (d .entry))) (now (store .entry))) ⌝ }
 {
     store::test(p, s, n, m, t, weights, tables, d, store)
 }
@@ -89,9 +89,9 @@ pub extern "C" fn celery_file(
     value: usize,
     column: &mut usize,
 ) -> u8
-    ensures { λ r. ⌜ r ≡ numberOf (stores.fileAnswer p s n m t (now (weights .entry)) (now (tables .entry)) (now (d .entry)) (now (store .entry)) entry value) ⌝ }
-    ensures { λ r. ⌜ now (store .exit) ≡ stores.fileStore p s n m t (now (weights .entry)) (now (tables .entry)) (now (d .entry)) (now (store .entry)) entry value ⌝ }
-    ensures { λ r. ⌜ now (column .exit) ≡ specs.columnOf (stores.fileAnswer p s n m t (now (weights .entry)) (now (tables .entry)) (now (d .entry)) (now (store .entry)) entry value) (columns (plan p s n m t)) (now (column .entry)) ⌝ }
+    ensures { λ r. ⌜ r ≡ numberOf (stores.fileAnswer (given p s n m t (now (weights .entry)) (now (tables .entry)) (now (d .entry))) (now (store .entry)) entry value) ⌝ }
+    ensures { λ r. ⌜ now (store .exit) ≡ stores.fileStore (given p s n m t (now (weights .entry)) (now (tables .entry)) (now (d .entry))) (now (store .entry)) entry value ⌝ }
+    ensures { λ r. ⌜ now (column .exit) ≡ specs.columnOf (stores.fileAnswer (given p s n m t (now (weights .entry)) (now (tables .entry)) (now (d .entry))) (now (store .entry)) entry value) (columns (plan p s n m t)) (now (column .entry)) ⌝ }
 {
     let a = store::file(p, s, n, m, t, weights, tables, d, store, entry, value);
     match a {
@@ -121,7 +121,7 @@ pub extern "C" fn celery_coefficients(
     store: &[u8],
     beta: &mut [u8],
 ) -> u8
-    ensures { λ r. ⌜ r ≡ first (stores.coefficientsCauses p s n m t (now (weights .entry)) (now (tables .entry)) (now (d .entry)) (now (store .entry)) (now (beta .entry))) ⌝ }
+    ensures { λ r. ⌜ r ≡ first (stores.coefficientsCauses (given p s n m t (now (weights .entry)) (now (tables .entry)) (now (d .entry))) (now (store .entry)) (now (beta .entry))) ⌝ }
     ensures { λ r. ⌜ now (beta .exit) ≡ result r (stores.coefficients (columns (plan p s n m t)) (now (store .entry))) (now (beta .entry)) ⌝ }
 {
     store::coefficients(p, s, n, m, t, weights, tables, d, store, beta)
@@ -141,7 +141,7 @@ pub extern "C" fn celery_check_writing(
     beta: &[u8],
     steps: &[u16],
 ) -> u8
-    ensures { λ r. ⌜ r ≡ first (programs.writeCauses p s n m t (now (weights .entry)) (now (tables .entry)) (now (d .entry)) (now (beta .entry)) (now (steps .entry))) ⌝ }
+    ensures { λ r. ⌜ r ≡ first (programs.writeCauses (given p s n m t (now (weights .entry)) (now (tables .entry)) (now (d .entry))) (now (beta .entry)) (now (steps .entry))) ⌝ }
 {
     program::check_writing(p, s, n, m, t, weights, tables, d, beta, steps)
 }
@@ -161,7 +161,7 @@ pub extern "C" fn celery_write(
     steps: &mut [u16],
     written: &mut usize,
 ) -> u8
-    ensures { λ r. ⌜ r ≡ first (programs.writeCauses p s n m t (now (weights .entry)) (now (tables .entry)) (now (d .entry)) (now (beta .entry)) (now (steps .entry))) ⌝ }
+    ensures { λ r. ⌜ r ≡ first (programs.writeCauses (given p s n m t (now (weights .entry)) (now (tables .entry)) (now (d .entry))) (now (beta .entry)) (now (steps .entry))) ⌝ }
     ensures { λ r. ⌜ now (steps .exit) ≡ programs.written r (plan p s n m t) (now (weights .entry)) (now (d .entry)) (now (beta .entry)) (now (steps .entry)) ⌝ }
     ensures { λ r. ⌜ now (written .exit) ≡ specs.lengthOf r (4 * stepCount (plan p s n m t)) (now (written .entry)) ⌝ }
 {
@@ -190,9 +190,9 @@ pub extern "C" fn celery_run(
     y: &mut u8,
     count: &mut usize,
 ) -> u8
-    ensures { λ r. ⌜ r ≡ numberOf (programs.runAnswer p s n m t (now (weights .entry)) (now (tables .entry)) (now (d .entry)) (now (steps .entry)) (now (digits .entry))) ⌝ }
-    ensures { λ r. ⌜ now (y .exit) ≡ specs.valueOf (programs.runAnswer p s n m t (now (weights .entry)) (now (tables .entry)) (now (d .entry)) (now (steps .entry)) (now (digits .entry))) 0 (now (y .entry)) ⌝ }
-    ensures { λ r. ⌜ now (count .exit) ≡ specs.valueOf (programs.runAnswer p s n m t (now (weights .entry)) (now (tables .entry)) (now (d .entry)) (now (steps .entry)) (now (digits .entry))) 1 (now (count .entry)) ⌝ }
+    ensures { λ r. ⌜ r ≡ numberOf (programs.runAnswer (given p s n m t (now (weights .entry)) (now (tables .entry)) (now (d .entry))) (now (steps .entry)) (now (digits .entry))) ⌝ }
+    ensures { λ r. ⌜ now (y .exit) ≡ specs.valueOf (programs.runAnswer (given p s n m t (now (weights .entry)) (now (tables .entry)) (now (d .entry))) (now (steps .entry)) (now (digits .entry))) 0 (now (y .entry)) ⌝ }
+    ensures { λ r. ⌜ now (count .exit) ≡ specs.valueOf (programs.runAnswer (given p s n m t (now (weights .entry)) (now (tables .entry)) (now (d .entry))) (now (steps .entry)) (now (digits .entry))) 1 (now (count .entry)) ⌝ }
 {
     let a = program::run(p, s, n, m, t, weights, tables, d, steps, digits);
     match a {
@@ -219,8 +219,8 @@ pub extern "C" fn celery_worst_norm(
     beta: &[u8],
     norm: &mut usize,
 ) -> u8
-    ensures { λ r. ⌜ r ≡ numberOf (norms.normAnswer p s n m t (now (weights .entry)) (now (tables .entry)) (now (d .entry)) (now (beta .entry))) ⌝ }
-    ensures { λ r. ⌜ now (norm .exit) ≡ specs.valueOf (norms.normAnswer p s n m t (now (weights .entry)) (now (tables .entry)) (now (d .entry)) (now (beta .entry))) 0 (now (norm .entry)) ⌝ }
+    ensures { λ r. ⌜ r ≡ numberOf (norms.normAnswer (given p s n m t (now (weights .entry)) (now (tables .entry)) (now (d .entry))) (now (beta .entry))) ⌝ }
+    ensures { λ r. ⌜ now (norm .exit) ≡ specs.valueOf (norms.normAnswer (given p s n m t (now (weights .entry)) (now (tables .entry)) (now (d .entry))) (now (beta .entry))) 0 (now (norm .entry)) ⌝ }
 {
     let a = listing::worst_norm(p, s, n, m, t, weights, tables, d, beta);
     match a {

@@ -3,10 +3,18 @@
 use mathlib.Core.Path.{sym, ap, _∙_}
 use native.Mathlib.Omega.{arith}
 use borrow.Author.Needs.{needs}
+use Rattle.plan.specs.Numbers.{plan, Within}
 use Rattle.store.specs.Calls.{answerOf}
 use Rattle.celerycrag.proofs.Accepted.{implied-within}
 use Rattle.celerycrag.proofs.celery_file.Statement.{statement}
 use Rattle.celerycrag.proofs.celery_file.Tie as tie
+
+abbrev start : tie.After-file → tie.Start
+start c = c .before .before .before .before .before .before .before .before
+
+-- an implied entry's plan is within its limits
+within : (c : tie.After-enum-told) → let a = start (c .before .before .before .before) .args in Within (plan (a .p) (a .s) (a .n) (a .m) (a .t))
+within c = implied-within _ _ _ _ _ (sym (c .before .before .before .before .file .ensures .0) ∙ ap answerOf (c .enum-told .given .1))
 
 file-requires : tie.Need-file-requires
 file-requires c κs = search needs
@@ -18,19 +26,13 @@ enum-told : tie.Need-enum-told
 enum-told c = search needs
 
 add-column : tie.Need-add-column
-add-column c =
-    let file = c .before .before .before .before .file in
-    omega (arith, implied-within _ _ _ _ _ _ _ _ _ _ _ _ (sym (file .ensures .0) ∙ ap answerOf (c .enum-told .given .1)))
+add-column c = omega (arith, within c)
 
 add-column-2 : tie.Need-add-column-2
-add-column-2 c =
-    let file = c .before .before .before .before .file in
-    omega (arith, implied-within _ _ _ _ _ _ _ _ _ _ _ _ (sym (file .ensures .0) ∙ ap answerOf (c .enum-told .given .1)))
+add-column-2 c = omega (arith, within c)
 
 mul-column : tie.Need-mul-column
-mul-column c =
-    let file = c .before .before .before .before .file in
-    omega (arith, implied-within _ _ _ _ _ _ _ _ _ _ _ _ (sym (file .ensures .0) ∙ ap answerOf (c .enum-told .given .1)))
+mul-column c = omega (arith, within c)
 
 enum-known-a-2 : tie.Need-enum-known-a-2
 enum-known-a-2 c = search needs

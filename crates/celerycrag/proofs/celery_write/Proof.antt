@@ -4,31 +4,39 @@ use mathlib.Core.Path.{sym, ap, _∙_}
 use Prim.Native.Nat.{ℕ, _*_}
 use native.Mathlib.Omega.{arith}
 use borrow.Author.Needs.{needs}
-use Rattle.program.specs.Layout.{stepCount}
-use Rattle.celerycrag.proofs.Accepted.{writes-within, step-count-small, lengthOf-refused}
+use Rattle.plan.specs.Numbers.{plan, Within}
+use Rattle.plan.proofs.Bounds.{prime-high}
+use Rattle.program.proofs.Shape.{step-limit}
+use Rattle.celerycrag.proofs.Accepted.{writes-within, lengthOf-refused}
 use Rattle.celerycrag.proofs.celery_write.Statement.{statement}
 use Rattle.celerycrag.proofs.celery_write.Tie as tie
+
+abbrev start : tie.After-write-into → tie.Start
+start c = c .before .before .before .before .before .before .before
 
 write-into-requires : tie.Need-write-into-requires
 write-into-requires c κs = search needs
 
+-- a written program's plan is within its limits
+within : (c : tie.Then1) → let a = start (c .before .before .before) .args in Within (plan (a .p) (a .s) (a .n) (a .m) (a .t))
+within c = writes-within _ _ _ (sym (c .before .before .before .write-into .ensures .0) ∙ c .if1 .taken)
+
+cast-p : tie.Need-cast-p
+cast-p c = omega (arith, prime-high (within c))
+
+cast-s : tie.Need-cast-s
+cast-s c = omega (arith, prime-high (within c), within c .radix-high)
+
 step-count-requires : tie.Need-step-count-requires
-step-count-requires c κs =
-    let write-into = c .before .before .before .write-into in
-    let w = writes-within _ _ _ _ _ _ _ _ _ _ (sym (write-into .ensures .0) ∙ c .if1 .taken) in
-    (w .variable-limit, w .product-limit)
+step-count-requires c κs = within c
 
 mul-written : tie.Need-mul-written
-mul-written c =
-    let write-into = c .before .before .before .before .write-into in
-    let w = writes-within _ _ _ _ _ _ _ _ _ _ (sym (write-into .ensures .0) ∙ c .before .if1 .taken) in
-    omega (arith, step-count-small w (c .step-count .result) (c .step-count .ensures))
+mul-written c = omega (arith, step-limit _ (within (c .before)), c .step-count .ensures)
 
 same-length : tie.Need-same-length
 same-length c = search needs
 
 returns : tie.Need-returns
-unfolding stepCount
 returns c =
     let write-into = c .before .before .before .before .write-into in
     (write-into .ensures .0, (write-into .ensures .1, rw (c .before .if1 .taken) (ap (λ (x : ℕ). 4 * x) (c .step-count .ensures))))
@@ -46,6 +54,8 @@ celery-write-spec =
     tie.close
     (tie.spec
     write-into-requires
+    cast-p
+    cast-s
     step-count-requires
     mul-written
     same-length
