@@ -1,3 +1,2 @@
--- What an accepted call says of its plan, and what an answer tells.
-pub mod Accepted
+-- What an answer tells.
 pub mod Told

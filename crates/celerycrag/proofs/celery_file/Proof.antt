@@ -4,17 +4,18 @@ use mathlib.Core.Path.{sym, ap, _∙_}
 use native.Mathlib.Omega.{arith}
 use borrow.Author.Needs.{needs}
 use Rattle.plan.specs.Numbers.{plan, Within}
+use Rattle.plan.proofs.Refusals.{answer-gives}
+use Rattle.plan.proofs.Admitting.{unrefused}
 use Rattle.store.specs.Calls.{answerOf}
-use Rattle.celerycrag.proofs.Accepted.{implied-within}
 use Rattle.celerycrag.proofs.celery_file.Statement.{statement}
 use Rattle.celerycrag.proofs.celery_file.Tie as tie
 
 abbrev start : tie.After-file → tie.Start
-start c = c .before .before .before .before .before .before .before .before
+start c = c .before .before .before .before .before .before
 
 -- an implied entry's plan is within its limits
 within : (c : tie.After-enum-told) → let a = start (c .before .before .before .before) .args in Within (plan (a .p) (a .s) (a .n) (a .m) (a .t))
-within c = implied-within _ _ _ _ _ (sym (c .before .before .before .before .file .ensures .0) ∙ ap answerOf (c .enum-told .given .1))
+within c = unrefused _ _ _ (answer-gives _ _ _ (sym (c .before .before .before .before .file .ensures .0) ∙ ap answerOf (c .enum-told .given .1)) .0) .within
 
 file-requires : tie.Need-file-requires
 file-requires c κs = search needs

@@ -1,15 +1,21 @@
 -- `celerycrag::celery_write` meets its contract: where the writer accepts, the plan is within its limits and the step count fits.
 -- Assumes nothing.
-use mathlib.Core.Path.{sym, ap, _∙_}
-use Prim.Native.Nat.{ℕ, _*_}
+use mathlib.Core.Path.{_≡_, refl, sym, ap, _∙_}
+use Prim.Native.Nat.{ℕ, zero, suc, _*_}
 use native.Mathlib.Omega.{arith}
 use borrow.Author.Needs.{needs}
 use Rattle.plan.specs.Numbers.{plan, Within}
 use Rattle.plan.proofs.Bounds.{prime-high}
+use Rattle.plan.proofs.Admitting.{unrefused}
 use Rattle.program.proofs.Shape.{step-limit}
-use Rattle.celerycrag.proofs.Accepted.{writes-within, lengthOf-refused}
+use Rattle.celerycrag.specs.Numbers.{lengthOf}
 use Rattle.celerycrag.proofs.celery_write.Statement.{statement}
 use Rattle.celerycrag.proofs.celery_write.Tie as tie
+
+-- a refusal leaves the lent number alone
+lengthOf-refused : (k n old : ℕ) → (k ≡ 0 → ⊥) → lengthOf k n old ≡ old
+lengthOf-refused zero n old h = absurd (h refl)
+lengthOf-refused (suc k) n old h = refl
 
 abbrev start : tie.After-write-into → tie.Start
 start c = c .before .before .before .before .before .before .before
@@ -19,7 +25,7 @@ write-into-requires c κs = search needs
 
 -- a written program's plan is within its limits
 within : (c : tie.Then1) → let a = start (c .before .before .before) .args in Within (plan (a .p) (a .s) (a .n) (a .m) (a .t))
-within c = writes-within _ _ _ (sym (c .before .before .before .write-into .ensures .0) ∙ c .if1 .taken)
+within c = unrefused _ _ _ (sym (c .before .before .before .write-into .ensures .0) ∙ c .if1 .taken) .within
 
 cast-p : tie.Need-cast-p
 cast-p c = omega (arith, prime-high (within c))
