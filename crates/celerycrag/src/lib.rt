@@ -4,12 +4,10 @@
 // alone. include/celerycrag.h documents each call. Stands on `plan`, `store`, `program` and `listing`. Renders 01, "Turned down", for a
 // host: of causes 1 to 12 the number returned and what is left as it was, in the words of the contracts below.
 ghost use mathlib.Core.Path.{_≡_};
-ghost use mathlib.Core.List.{[]};
 ghost use Prim.Native.Nat.{_*_};
 ghost use Rattle.plan.specs.Causes.{first, result, numberOf};
 ghost use Rattle.plan.specs.Numbers.{plan, columns};
-ghost use Rattle.plan.specs.Parts.{given, callCauses};
-ghost use Rattle.plan.specs.declared.admission.Own.the-variants.{Nothing};
+ghost use Rattle.plan.specs.Parts.{given, checkCauses};
 ghost use Rattle.plan.specs.Rows as rows;
 ghost use Rattle.store.specs.Calls as stores;
 ghost use Rattle.program.specs.Layout.{stepCount};
@@ -29,7 +27,7 @@ pub extern "C" fn celery_check(
     tables: &[u8],
     d: &[u8],
 ) -> u8
-    ensures { λ r. ⌜ r ≡ first (callCauses (given p s n m t (now (weights .entry)) (now (tables .entry)) (now (d .entry))) Nothing (λ _. [])) ⌝ }
+    ensures { λ r. ⌜ r ≡ first (checkCauses (given p s n m t (now (weights .entry)) (now (tables .entry)) (now (d .entry)))) ⌝ }
 {
     plan::check(p, s, n, m, t, weights, tables, d)
 }

@@ -23,7 +23,7 @@ use Rattle.field.specs.Rows.{allBelow}
 use Rattle.field.proofs.Ranges.{residues-of}
 use Rattle.plan.specs.Causes.{first, gives}
 use Rattle.plan.specs.Numbers.{variables, columns, numberCauses, plan, numbersOf, answerOf, checked, Within}
-use Rattle.plan.specs.Parts.{Given, lend, given, linkStart, lengthsFit, valuesFit, storeSize, ownFits, partCauses, callCauses, admitted, Lent}
+use Rattle.plan.specs.Parts.{Given, lend, given, linkStart, lengthsFit, valuesFit, storeSize, ownFits, partCauses, callCauses, checkCauses, admitted, Lent}
 use Rattle.plan.specs.declared.numbers.Plan.{Plan}
 use Rattle.plan.specs.declared.numbers.Checked.the-variants.{Accepted, Refused}
 use Rattle.plan.specs.declared.admission.Own.{Own}
@@ -131,7 +131,7 @@ module _ (G : Given) (own : Own) where
       })
 
 -- a plan that is accepted by itself leaves a call its own causes alone
-pub accepted-call : (G : Given) → first (callCauses G Nothing (λ _. [])) ≡ 0 → (own : Own) (rest : Given → List (ℕ × Bool)) → ownFits own (G .numbers) ≡ true
+pub accepted-call : (G : Given) → first (checkCauses G) ≡ 0 → (own : Own) (rest : Given → List (ℕ × Bool)) → ownFits own (G .numbers) ≡ true
     → first (callCauses G own rest) ≡ first (rest G)
 unfolding numbered parts
 accepted-call G accepted own rest e =

@@ -9,6 +9,7 @@
 --     ownFits own P               the call's own parts have the lengths that the plan says: a row or β has C places, digits are n
 --     partCauses G fits           causes 4 and 5; fits says whether the call's own parts have their lengths
 --     callCauses G own rest       all causes of a call that is lent a plan: 1 to 3, 4 and 5, then the rest, the call's own
+--     checkCauses G               the causes of the call `check`, which has none of its own: 1 2 3 4 5
 --     admitted G own              what every call goes on with: the plan's numbers, or the first of causes 1 to 5
 --     Lent G                      the parts meet neither of causes 4 and 5
 use mathlib.Core.Path.{_≡_}
@@ -69,6 +70,9 @@ unfoldable pub callCauses : Given → Own → (Given → List (ℕ × Bool)) →
 callCauses G own rest =
     let P = G .numbers in
     numberCauses (P .p) (P .s) (P .n) (P .m) (P .t) ++ (partCauses G (ownFits own P) ++ rest G)
+
+abbrev pub checkCauses : Given → List (ℕ × Bool)
+checkCauses G = callCauses G Nothing (λ _. [])
 
 unfoldable pub admitted : Given → Own → Answer
 admitted G own = answer (first (callCauses G own (λ _. []))) (numbersOf (G .numbers))

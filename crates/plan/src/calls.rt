@@ -1,8 +1,7 @@
 // The entry points: any numbers and bytes are taken, and the answer is the number of the refusal, 0 where there is none.
 ghost use mathlib.Core.Path.{_≡_};
-ghost use mathlib.Core.List.{[]};
 ghost use Rattle.plan.specs.Causes.{first, result};
-ghost use Rattle.plan.specs.Parts.{given, callCauses};
+ghost use Rattle.plan.specs.Parts.{given, checkCauses};
 ghost use Rattle.plan.specs.Rows as specs;
 use crate::admission::Own;
 use crate::admission::admit;
@@ -20,7 +19,7 @@ pub fn check(
     tables: &[u8],
     d: &[u8],
 ) -> u8
-    ensures { λ r. ⌜ r ≡ first (callCauses (given p s n m t (now (weights .entry)) (now (tables .entry)) (now (d .entry))) Own.Nothing (λ _. [])) ⌝ }
+    ensures { λ r. ⌜ r ≡ first (checkCauses (given p s n m t (now (weights .entry)) (now (tables .entry)) (now (d .entry)))) ⌝ }
 {
     match admit(p, s, n, m, t, weights, tables, d, Own::Nothing) {
         Checked::Refused(k) => k,
