@@ -165,6 +165,7 @@ pub extern "C" fn celery_write(
 {
     let k = program::write_into(p, s, n, m, t, weights, tables, d, beta, steps);
     if k == 0 {
+        // the plan was accepted, so p and s fit
         let p = p as u8;
         let s = s as u8;
         *written = 4 * program::step_count(plan::Plan { p, s, n, m, t });

@@ -36,7 +36,8 @@ pub put-digit : (e : List ℕ) (k n : ℕ) → n < 10 → k < length e → Put e
 put-digit e k n h room =
     put-as (sym (decimal-one n h)) (put-first e k ((48 + n) ∷ []) (placed-set e k (48 + n) room) refl (omega arith))
 
-pub put-more : (e : List ℕ) (k n : ℕ) {out : List ℕ} {next : ℕ} → 10 ≤ n → n < 2 ^ 64 → k + 20 ≤ length e → out ≡ placed e k (decimal (n / 10)) → next ≡ k + length (decimal (n / 10))
+pub put-more : (e : List ℕ) (k n : ℕ) {out : List ℕ} {next : ℕ} → 10 ≤ n → n < 2 ^ 64 → k + 20 ≤ length e → out ≡ placed e k (decimal (n / 10))
+    → next ≡ k + length (decimal (n / 10))
     → (next < length out) × Put e k (decimal n) (set out next (48 + n % 10)) (next + 1)
 put-more e k n {out} {next} h fits room list ends =
     let l = decimal-tenth n fits in
@@ -74,10 +75,12 @@ module _ (steps : List ℕ) (small : (i : ℕ) → at steps i < 1000) where
   unfolding joined
   lines-none e k h = left-none 0 e k (omega arith) .put
 
-  pub lines-left : {e out : List ℕ} {k next : ℕ} (i : ℕ) → Put e k (joined (stepLine steps) i) out next → i < length steps / 4 → k + 16 * (length steps / 4) + 33 ≤ length e → next + 33 ≤ length out
+  pub lines-left : {e out : List ℕ} {k next : ℕ} (i : ℕ) → Put e k (joined (stepLine steps) i) out next → i < length steps / 4
+      → k + 16 * (length steps / 4) + 33 ≤ length e → next + 33 ≤ length out
   lines-left i p h room = omega (arith, p .ends, put-length p, lines-room steps small i)
 
-  pub lines-turn : {e out : List ℕ} {k next : ℕ} (i : ℕ) {after : List ℕ} {further : ℕ} → Put e k (joined (stepLine steps) i) out next → i < length steps / 4 → k + 16 * (length steps / 4) + 33 ≤ length e
+  pub lines-turn : {e out : List ℕ} {k next : ℕ} (i : ℕ) {after : List ℕ} {further : ℕ} → Put e k (joined (stepLine steps) i) out next
+      → i < length steps / 4 → k + 16 * (length steps / 4) + 33 ≤ length e
       → after ≡ placed out next (stepLine steps i) → further ≡ next + length (stepLine steps i) → Put e k (joined (stepLine steps) (i + 1)) after further
   unfolding joined
   lines-turn {e} {out} {k} {next} i {after} {further} p h room ha hf =
@@ -85,7 +88,8 @@ module _ (steps : List ℕ) (small : (i : ℕ) → at steps i < 1000) where
       subst (λ (n : ℕ). Put e k (joined (stepLine steps) n) after further) (sym (add-one i))
       (put-next (stepLine steps i) p ha hf (omega (arith, p .ends, lines-room steps small i, short)))
 
-  pub lines-done : {e out : List ℕ} {k next : ℕ} (i : ℕ) → Put e k (joined (stepLine steps) i) out next → i ≤ length steps / 4 → length steps / 4 ≤ i → Put e k (joined (stepLine steps) (length steps / 4)) out next
+  pub lines-done : {e out : List ℕ} {k next : ℕ} (i : ℕ) → Put e k (joined (stepLine steps) i) out next → i ≤ length steps / 4 → length steps / 4 ≤ i
+      → Put e k (joined (stepLine steps) (length steps / 4)) out next
   lines-done {e} {out} {k} {next} i p h l = subst (λ (n : ℕ). Put e k (joined (stepLine steps) n) out next) (le-antisymm h l) p
 
 pub three-most : (a b c : ℕ) → length (line (a ∷ b ∷ c ∷ [])) ≤ 63

@@ -31,7 +31,8 @@ put-first e k xs h hn room = record { list = h; ends = hn; room = room }
 pub put-length : {e xs out : List ℕ} {k next : ℕ} → Put e k xs out next → length out ≡ length e
 put-length {e} {xs} {out} {k} p = ap length (p .list) ∙ placed-length e k xs (p .room)
 
-pub put-next : {e xs out : List ℕ} {k next : ℕ} (ys : List ℕ) {after : List ℕ} {further : ℕ} → Put e k xs out next → after ≡ placed out next ys → further ≡ next + length ys → next + length ys ≤ length e → Put e k (xs ++ ys) after further
+pub put-next : {e xs out : List ℕ} {k next : ℕ} (ys : List ℕ) {after : List ℕ} {further : ℕ} → Put e k xs out next → after ≡ placed out next ys
+    → further ≡ next + length ys → next + length ys ≤ length e → Put e k (xs ++ ys) after further
 put-next {e} {xs} {out} {k} {next} ys p h hn room =
     record {
       list = h ∙ ap₂ (λ (o : List ℕ) (n : ℕ). placed o n ys) (p .list) (p .ends) ∙ placed-placed e k xs ys (p .room);
@@ -67,7 +68,8 @@ pub left-none : (room : ℕ) (e : List ℕ) (k : ℕ) → k + room ≤ length e 
 left-none room e k h =
     record { put = record { list = sym (placed-nothing e k); ends = omega arith; room = omega arith }; left = h }
 
-pub left-next : {room : ℕ} {e xs out : List ℕ} {k next : ℕ} (most rest : ℕ) (ys : List ℕ) {after : List ℕ} {further : ℕ} → Left room e k xs out next → length ys ≤ most → most + rest ≤ room
+pub left-next : {room : ℕ} {e xs out : List ℕ} {k next : ℕ} (most rest : ℕ) (ys : List ℕ) {after : List ℕ} {further : ℕ} → Left room e k xs out next
+    → length ys ≤ most → most + rest ≤ room
     → after ≡ placed out next ys → further ≡ next + length ys → Left rest e k (xs ++ ys) after further
 left-next {room} {e} {xs} {out} {k} {next} most rest ys {after} {further} l short fits h hn =
     let same : length out ≡ length e = put-length (l .put) in

@@ -87,7 +87,8 @@ module _ (P : Plan) (within : Within P) where
       place (suc (suc (suc zero))) e l = there (4 * (i / 4) + 3) (step l .by-small) (omega arith)
       place (suc (suc (suc (suc r)))) e l = absurd (omega arith)
 
-pub small-steps : (P : Plan) (w d β steps : List ℕ) → Within P → Residues (P .p) w → Residues (P .p) d → Residues (P .p) β → steps ≡ layout P w d β → (i : ℕ) → at steps i < 1000
+pub small-steps : (P : Plan) (w d β steps : List ℕ) → Within P → Residues (P .p) w → Residues (P .p) d → Residues (P .p) β → steps ≡ layout P w d β
+    → (i : ℕ) → at steps i < 1000
 small-steps P w d β steps within rw′ rd rβ e i =
     subst (λ (xs : List ℕ). at xs i < 1000) (sym e)
     (small-all P within (layout P w d β) (rw (layout-length P w d β) (omega arith)) (layout-wellFormed P w d β within rw′ rd rβ) i)

@@ -91,7 +91,8 @@ step-facts P kind to from by h =
     at-two n0 n1 t = rw (ne-eqb kind 0 n0, ne-eqb kind 1 n1) at t
 
 -- a step of a well-formed list
-pub step-at : (P : Plan) (steps : List ℕ) (i : ℕ) → wellFormed P steps ≡ true → i < length steps / 4 → StepFacts P (kindOf steps i) (toOf steps i) (fromOf steps i) (byOf steps i)
+pub step-at : (P : Plan) (steps : List ℕ) (i : ℕ) → wellFormed P steps ≡ true → i < length steps / 4
+    → StepFacts P (kindOf steps i) (toOf steps i) (fromOf steps i) (byOf steps i)
 step-at P steps i h l = step-facts P (kindOf steps i) (toOf steps i) (fromOf steps i) (byOf steps i) (well-formed P steps h .1 i l)
 
 -- the tables
@@ -219,7 +220,8 @@ module _ (P : Plan) (T steps digits : List ℕ) where
       low true = omega arith
       low false = omega arith
 
-  pub running-all : {regs : List ℕ} {k count : ℕ} → Running k regs count → length steps / 4 ≤ k → (at regs (lastRegister P) ≡ output P T steps digits) × (count ≡ bootstraps steps)
+  pub running-all : {regs : List ℕ} {k count : ℕ} → Running k regs count → length steps / 4 ≤ k
+      → (at regs (lastRegister P) ≡ output P T steps digits) × (count ≡ bootstraps steps)
   unfolding output bootstraps
   running-all {regs} {k} {count} r h =
       let e : k ≡ length steps / 4 = omega (arith, r .within) in

@@ -151,7 +151,8 @@ module _ (P : Plan) (T : List ℕ) where
   abbrev pub ends : Registers → List ℕ → Registers
   ends f xs = runs f xs (length xs / 4)
 
-  stepped-same : (f g : Registers) (xs ys : List ℕ) (i j : ℕ) → f ≡ g → Same xs i ys j → stepped P T f (kindOf xs i) (toOf xs i) (fromOf xs i) (byOf xs i) ≡ stepped P T g (kindOf ys j) (toOf ys j) (fromOf ys j) (byOf ys j)
+  stepped-same : (f g : Registers) (xs ys : List ℕ) (i j : ℕ) → f ≡ g → Same xs i ys j
+      → stepped P T f (kindOf xs i) (toOf xs i) (fromOf xs i) (byOf xs i) ≡ stepped P T g (kindOf ys j) (toOf ys j) (fromOf ys j) (byOf ys j)
   stepped-same f g xs ys i j e s = rw (e, s .kind, s .to, s .from, s .by)
 
   runs-front : (f : Registers) (xs ys : List ℕ) (k : ℕ) → k ≤ length xs / 4 → runs f (xs ++ ys) k ≡ runs f xs k

@@ -40,7 +40,8 @@ pub wrote-room : {out left : List ℕ} {k end : ℕ} (xs ys : List ℕ) → Room
 wrote-room {out} {left} {k} {end} xs ys room w =
     omega (arith, wrote-length xs (room-front out k xs ys room) w, w .next, length-append xs ys, room)
 
-pub wrote-then : {out left last : List ℕ} {k end next : ℕ} (xs ys : List ℕ) → Room out k (xs ++ ys) → Wrote out k xs end left → Wrote left end ys next last → Wrote out k (xs ++ ys) next last
+pub wrote-then : {out left last : List ℕ} {k end next : ℕ} (xs ys : List ℕ) → Room out k (xs ++ ys) → Wrote out k xs end left
+    → Wrote left end ys next last → Wrote out k (xs ++ ys) next last
 wrote-then {out} {left} {last} {k} {end} {next} xs ys room w v =
     record {
       next = v .next ∙ omega (arith, w .next, length-append xs ys);

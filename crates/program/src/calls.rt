@@ -99,6 +99,7 @@ pub fn write<'a>(
     if write_into(p, s, n, m, t, weights, tables, d, beta, steps) != 0 {
         return &mut steps[..0];
     }
+    // the plan was accepted, so p and s fit
     let p = p as u8;
     let s = s as u8;
     let end = 4 * step_count(Plan { p, s, n, m, t });

@@ -36,7 +36,8 @@ more : (t : ℕ) (c : put-decimal-lts.After-put-decimal (put-decimal-below t, pu
     let end = c .put-decimal .result in (end < length out) × Put (s .out .now) (s .at) (decimal (s .n)) (set out end (48 + s .n % 10)) (end + 1)
 more t c =
     let s = c .before .before .before .before in
-    put-more (s .args .out .now) (s .args .at) (s .args .n) (c .before .before .if1 .left) (s .fits .n .fits) (s .pre .1) (c .put-decimal .ensures .0) (c .put-decimal .ensures .1)
+    put-more (s .args .out .now) (s .args .at) (s .args .n) (c .before .before .if1 .left) (s .fits .n .fits) (s .pre .1)
+    (c .put-decimal .ensures .0) (c .put-decimal .ensures .1)
 
 pub +put-decimal-spec : {M : Type 1} → statement M
 +put-decimal-spec = close μ-put-decimal λ t. put-decimal-lts.spec (put-decimal-below t, put-decimal.Post) (put-decimal-at t) put-decimal.Post

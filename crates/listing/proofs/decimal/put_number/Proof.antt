@@ -12,7 +12,8 @@ use Rattle.listing.proofs.decimal.put_number.Tie as tie
 digits : (c : tie.After-put-decimal) → let s = c .before .before .before .args in Left 1 (s .out .now) (s .at) ([] ++ decimal (s .n)) (c .put-decimal .last .0) (c .put-decimal .result)
 digits c =
     let s = c .before .before .before in
-    left-next 20 1 (decimal (s .args .n)) (left-none 21 (s .args .out .now) (s .args .at) (s .pre)) (decimal-most (s .args .n)) (omega arith) (c .put-decimal .ensures .0) (c .put-decimal .ensures .1)
+    left-next 20 1 (decimal (s .args .n)) (left-none 21 (s .args .out .now) (s .args .at) (s .pre)) (decimal-most (s .args .n)) (omega arith)
+    (c .put-decimal .ensures .0) (c .put-decimal .ensures .1)
 
 put-decimal-requires : tie.Need-put-decimal-requires
 put-decimal-requires c κs = search needs

@@ -14,7 +14,8 @@ start c = c .before .before .before
 first : (c : tie.After-put-number) → let s = start c .args in Left 21 (s .out .now) (s .at) ([] ++ ended (s .a) 32) (c .put-number .last .0) (c .put-number .result)
 first c =
     let s = start c in
-    left-next 21 21 (ended (s .args .a) 32) (left-none 42 (s .args .out .now) (s .args .at) (s .pre)) (ended-most (s .args .a) 32) (omega arith) (c .put-number .ensures .0) (c .put-number .ensures .1)
+    left-next 21 21 (ended (s .args .a) 32) (left-none 42 (s .args .out .now) (s .args .at) (s .pre)) (ended-most (s .args .a) 32) (omega arith)
+    (c .put-number .ensures .0) (c .put-number .ensures .1)
 
 put-number-requires : tie.Need-put-number-requires
 put-number-requires c κs = search needs

@@ -17,7 +17,8 @@ use Rattle.listing.proofs.norm.links_norm.Statement.{statement}
 use Rattle.listing.proofs.norm.links_norm.Tie as tie
 
 abbrev Inv-loop : tie.InvT-loop
-Inv-loop plan weights n top₀ begin₀ k₀ top begin k = (k ≤ plan .m) × (begin ≡ linkStart plan k) × (top ≡ largest (λ i. specs.squares weights (linkStart plan i) (plan .n + i)) k)
+Inv-loop plan weights n top₀ begin₀ k₀ top begin k =
+    (k ≤ plan .m) × (begin ≡ linkStart plan k) × (top ≡ largest (λ i. specs.squares weights (linkStart plan i) (plan .n + i)) k)
 
 abbrev μ-loop : tie.MeasureT-loop
 μ-loop plan weights n top₀ begin₀ k₀ top begin k = plan .m - k

@@ -52,7 +52,9 @@ loop-again c =
     (omega arith, omega arith, omega (arith, term-small (c)))
 
 returns : tie.Need-returns Inv-loop μ-loop
-returns c = c .before .loop .inv .1 ∙ ap (dot (c .before .before .args .ws .now) (c .before .before .args .ws .now)) (le-antisymm (c .before .loop .inv .0) (c .loop-test .left))
+returns c =
+    c .before .loop .inv .1 ∙ ap (dot (c .before .before .args .ws .now) (c .before .before .args .ws .now))
+    (le-antisymm (c .before .loop .inv .0) (c .loop-test .left))
 
 pub squares-spec : {M : Type 1} → statement M
 squares-spec =

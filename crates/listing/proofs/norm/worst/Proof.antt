@@ -42,7 +42,8 @@ returns c =
     let links = products .before in
     let r = links .before in
     let s = start r .args in
-    norm-of (s .plan) (s .weights .now) (s .d .now) (s .beta .now) (r .variables .ensures) (links .links-norm .ensures) (products .rows-norm .ensures) (c .before .before .rows-norm2 .ensures) (c .before .larger .ensures) (c .larger2 .ensures)
+    norm-of (s .plan) (s .weights .now) (s .d .now) (s .beta .now) (r .variables .ensures) (links .links-norm .ensures)
+    (products .rows-norm .ensures) (c .before .before .rows-norm2 .ensures) (c .before .larger .ensures) (c .larger2 .ensures)
 
 pub worst-spec : {M : Type 1} → statement M
 worst-spec =

@@ -33,7 +33,8 @@ module _ (c : tie.After-worst) where
   small : (i : ℕ) → at steps i < 1000
   small =
       let pre = start c .pre in
-      small-steps (start c .args .plan) (start c .args .weights .now) (start c .args .d .now) (start c .args .beta .now) steps (pre .0) (pre .1 .0 .1) (pre .1 .1 .0 .1) (pre .1 .1 .1 .0 .1) (pre .1 .1 .1 .1 .0)
+      small-steps (start c .args .plan) (start c .args .weights .now) (start c .args .d .now) (start c .args .beta .now) steps (pre .0)
+      (pre .1 .0 .1) (pre .1 .1 .0 .1) (pre .1 .1 .1 .0 .1) (pre .1 .1 .1 .1 .0)
 
   -- the line of figures as the code has it
   abbrev figureLine : List ℕ
@@ -43,7 +44,8 @@ module _ (c : tie.After-worst) where
 first : (c : tie.After-put-bytes) → Left 131049 (start (c .before .before .before) .args .out .now) 0 ([] ++ figureNames) (c .put-bytes .last .0) (c .put-bytes .result)
 first c =
     let s = start (c .before .before .before) in
-    left-next 23 131049 figureNames (left-none 131072 (s .args .out .now) 0 (s .pre .1 .1 .1 .1 .1)) (omega arith) (omega arith) (c .put-bytes .ensures .0) (c .put-bytes .ensures .1)
+    left-next 23 131049 figureNames (left-none 131072 (s .args .out .now) 0 (s .pre .1 .1 .1 .1 .1)) (omega arith) (omega arith)
+    (c .put-bytes .ensures .0) (c .put-bytes .ensures .1)
 
 second : (c : tie.After-put-figures) → let r = c .before .before .before .before .before .before .before in
     Left 130986 (start r .args .out .now) 0 (([] ++ figureNames) ++ figureLine r) (c .put-figures .last .0) (c .put-figures .result)
@@ -53,7 +55,9 @@ second c =
 
 third : (c : tie.After-put-bytes2) → let r = c .before .before .before .before .before .before .before .before .before .before .before .before in
     Left 130970 (start r .args .out .now) 0 ((([] ++ figureNames) ++ figureLine r) ++ stepNames) (c .put-bytes2 .last .0) (c .put-bytes2 .result)
-third c = left-next 16 130970 stepNames (second (c .before .before .before .before .before)) (omega arith) (omega arith) (c .put-bytes2 .ensures .0) (c .put-bytes2 .ensures .1)
+third c =
+    left-next 16 130970 stepNames (second (c .before .before .before .before .before)) (omega arith) (omega arith) (c .put-bytes2 .ensures .0)
+    (c .put-bytes2 .ensures .1)
 
 mul-bootstraps : tie.Need-mul-bootstraps
 mul-bootstraps c = search needs

@@ -148,7 +148,8 @@ loop-again-3 : tie.Need-loop-again-3 Inv-loop μ-loop
 loop-again-3 c =
     let r = c .before .before .before .before .before .before .before in
     running-boot _ _ _ _ (r .before .loop .inv) (r .loop-test .taken) (to-inside r) _ (c .boot .ensures)
-    (table-small (start r .args .plan) (start r .args .tables .now) _ _ (positive r) (start r .pre .1 .0 .1)) (facts r .table (c .before .before .if1 .left) (c .before .if2 .left) .0)
+    (table-small (start r .args .plan) (start r .args .tables .now) _ _ (positive r) (start r .pre .1 .0 .1))
+    (facts r .table (c .before .before .if1 .left) (c .before .if2 .left) .0)
 
 add-y : tie.Need-add-y Inv-loop μ-loop
 add-y c = omega arith

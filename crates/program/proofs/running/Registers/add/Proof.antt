@@ -13,7 +13,9 @@ element-copy-out-cell-2 : tie.Need-element-copy-out-cell-2
 element-copy-out-cell-2 c = search needs
 
 cell-requires : tie.Need-cell-requires
-cell-requires c κs = (c .before .before .pre .1 .0, (c .before .before .pre .1 .1 .0, (c .before .before .pre .1 .1 .2 _, c .before .before .pre .1 .1 .2 _, le-of-lt (c .before .before .pre .1 .1 .1))))
+cell-requires c κs =
+    let pre = c .before .before .pre .1 in
+    (pre .0, (pre .1 .0, (pre .1 .2 _, pre .1 .2 _, le-of-lt (pre .1 .1))))
 
 element-write-self : tie.Need-element-write-self
 element-write-self c = search needs

@@ -9,7 +9,9 @@ element-copy-out-table-at : tie.Need-element-copy-out-table-at
 element-copy-out-table-at c = search needs
 
 table-at-requires : tie.Need-table-at-requires
-table-at-requires c κs = (c .before .before .pre .1 .0, (c .before .before .pre .1 .1 .0, (c .before .before .pre .1 .1 .1 .1 _, c .before .before .pre .1 .1 .1 .0)))
+table-at-requires c κs =
+    let pre = c .before .before .pre .1 in
+    (pre .0, (pre .1 .0, (pre .1 .1 .1 _, pre .1 .1 .0)))
 
 element-write-self : tie.Need-element-write-self
 element-write-self c = search needs
