@@ -1,73 +1,130 @@
-// Each call with its answer, and after it every byte of a part that it was lent to write.
-use crate::programs::ran;
-use crate::say;
-use crate::shown::bytes;
-use crate::shown::count;
-use crate::shown::numbers;
-use crate::stores::answer;
+// Each call with its answer, and after it every byte of a part that it was lent to write. `held` has the plan's numbers first.
+use crate::parts::front;
+use crate::parts::lent;
+use crate::parts::lent_steps;
 
-// The check of a plan.
-pub fn check(
-    p: usize,
-    s: usize,
-    n: usize,
-    m: usize,
-    t: usize,
-    weights: &[u8],
-    tables: &[u8],
-    d: &[u8],
-) {
-    say(
-        b"plan check",
-        plan::check(p, s, n, m, t, weights, tables, d),
-    );
+// A line of an answer: what it is, and a number.
+fn say(name: &[u8], number: usize) {
+    io::write_all(1, b"= ");
+    io::write_all(1, name);
+    io::write_all(1, b" ");
+    io::print_decimal(1, number as u64);
+    io::write_all(1, b"\n");
 }
 
-// The row of an entry.
-pub fn row(
-    p: usize,
-    s: usize,
-    n: usize,
-    m: usize,
-    t: usize,
+// A byte after a space.
+fn next(number: usize) {
+    io::write_all(1, b" ");
+    io::print_decimal(1, number as u64);
+}
+
+// Every byte of a part.
+fn bytes(name: &[u8], part: &[u8]) {
+    io::write_all(1, name);
+    let mut j: usize = 0;
+    while j < part.len() {
+        next(part[j] as usize);
+        j += 1;
+    }
+    io::write_all(1, b"\n");
+}
+
+// Every number of a step slice.
+fn numbers(part: &[u16]) {
+    io::write_all(1, b"= steps");
+    let mut j: usize = 0;
+    while j < part.len() {
+        next(part[j] as usize);
+        j += 1;
+    }
+    io::write_all(1, b"\n");
+}
+
+// The check of a plan, or the row of an entry.
+fn on_plan(
+    k: usize,
+    held: &[usize; 16],
     weights: &[u8],
     tables: &[u8],
     d: &[u8],
-    entry: usize,
     row: &mut [u8],
+    entry: usize,
 ) {
-    say(
-        b"plan row",
-        plan::row(p, s, n, m, t, weights, tables, d, entry, row),
-    );
-    bytes(b"whole row", row);
+    if k == 9 {
+        let answer = plan::check(
+            held[0],
+            held[1],
+            held[2],
+            held[3],
+            held[4],
+            weights,
+            tables,
+            d,
+        );
+        say(b"number", answer as usize);
+    } else {
+        let answer = plan::row(
+            held[0],
+            held[1],
+            held[2],
+            held[3],
+            held[4],
+            weights,
+            tables,
+            d,
+            entry,
+            row,
+        );
+        say(b"number", answer as usize);
+        bytes(b"= row", row);
+    }
 }
 
-// The test of a store.
-pub fn test(
-    p: usize,
-    s: usize,
-    n: usize,
-    m: usize,
-    t: usize,
+// The test of a store, or the reading off.
+fn on_store(
+    k: usize,
+    held: &[usize; 16],
     weights: &[u8],
     tables: &[u8],
     d: &[u8],
     store: &[u8],
+    beta: &mut [u8],
 ) {
-    say(
-        b"store test",
-        store::test(p, s, n, m, t, weights, tables, d, store),
-    );
+    if k == 11 {
+        let answer = store::test(
+            held[0],
+            held[1],
+            held[2],
+            held[3],
+            held[4],
+            weights,
+            tables,
+            d,
+            store,
+        );
+        say(b"number", answer as usize);
+    } else {
+        let answer = store::coefficients(
+            held[0],
+            held[1],
+            held[2],
+            held[3],
+            held[4],
+            weights,
+            tables,
+            d,
+            store,
+            beta,
+        );
+        say(b"number", answer as usize);
+        bytes(b"= beta", beta);
+        bytes(b"= store", store);
+    }
 }
 
 // A filing.
-pub fn file(
-    p: usize,
-    s: usize,
-    n: usize,
-    m: usize,
-    t: usize,
+fn file(
+    held: &[usize; 16],
     weights: &[u8],
     tables: &[u8],
     d: &[u8],
@@ -75,115 +132,218 @@ pub fn file(
     entry: usize,
     value: usize,
 ) {
-    io::write_all(1, b"store file ");
-    answer(store::file(p, s, n, m, t, weights, tables, d, store, entry, value));
-    bytes(b"whole store", store);
-}
-
-// The reading off.
-pub fn coefficients(
-    p: usize,
-    s: usize,
-    n: usize,
-    m: usize,
-    t: usize,
-    weights: &[u8],
-    tables: &[u8],
-    d: &[u8],
-    store: &[u8],
-    beta: &mut [u8],
-) {
-    say(
-        b"store coefficients",
-        store::coefficients(p, s, n, m, t, weights, tables, d, store, beta),
+    let answer = store::file(
+        held[0],
+        held[1],
+        held[2],
+        held[3],
+        held[4],
+        weights,
+        tables,
+        d,
+        store,
+        entry,
+        value,
     );
-    bytes(b"whole beta", beta);
-    bytes(b"whole store", store);
+    match answer {
+        store::Filed::New(column) => say(b"new", column),
+        store::Filed::Implied => say(b"implied", 0),
+        store::Filed::Refused(k) => say(b"refused", k as usize),
+    }
+    bytes(b"= store", store);
 }
 
 // The length of the part that the writer hands back; with this call the loan of the slice ends.
 fn handed(
-    p: usize,
-    s: usize,
-    n: usize,
-    m: usize,
-    t: usize,
+    held: &[usize; 16],
     weights: &[u8],
     tables: &[u8],
     d: &[u8],
     beta: &[u8],
     steps: &mut [u16],
 ) -> usize {
-    let part = program::write(p, s, n, m, t, weights, tables, d, beta, steps);
+    let part = program::write(
+        held[0],
+        held[1],
+        held[2],
+        held[3],
+        held[4],
+        weights,
+        tables,
+        d,
+        beta,
+        steps,
+    );
     part.len()
 }
 
-// The check of a writing, the writer into one slice, and the call that fills the other.
-pub fn writing(
-    p: usize,
-    s: usize,
-    n: usize,
-    m: usize,
-    t: usize,
+// The check of a writing, or one of the two writers.
+fn on_program(
+    k: usize,
+    held: &[usize; 16],
     weights: &[u8],
     tables: &[u8],
     d: &[u8],
     beta: &[u8],
     steps: &mut [u16],
-    again: &mut [u16],
 ) {
-    say(
-        b"check writing",
-        program::check_writing(p, s, n, m, t, weights, tables, d, beta, steps),
-    );
-    count(
-        b"write hands back",
-        handed(p, s, n, m, t, weights, tables, d, beta, steps),
-    );
-    numbers(b"whole steps", steps);
-    say(
-        b"write into",
-        program::write_into(p, s, n, m, t, weights, tables, d, beta, again),
-    );
-    numbers(b"whole steps", again);
+    if k == 14 {
+        let answer = program::check_writing(
+            held[0],
+            held[1],
+            held[2],
+            held[3],
+            held[4],
+            weights,
+            tables,
+            d,
+            beta,
+            steps,
+        );
+        say(b"number", answer as usize);
+        return;
+    }
+    if k == 15 {
+        let answer = program::write_into(
+            held[0],
+            held[1],
+            held[2],
+            held[3],
+            held[4],
+            weights,
+            tables,
+            d,
+            beta,
+            steps,
+        );
+        say(b"number", answer as usize);
+        numbers(steps);
+        return;
+    }
+    say(b"length", handed(held, weights, tables, d, beta, steps));
+    numbers(steps);
 }
 
 // A run.
-pub fn run(
-    p: usize,
-    s: usize,
-    n: usize,
-    m: usize,
-    t: usize,
-    weights: &[u8],
-    tables: &[u8],
-    d: &[u8],
-    steps: &[u16],
-    digits: &[u8],
-) {
-    io::write_all(1, b"run ");
-    ran(program::run(p, s, n, m, t, weights, tables, d, steps, digits));
-}
-
-// What the worst norm answered.
-fn normed(a: listing::Normed) {
-    match a {
-        listing::Normed::Norm(k) => count(b"worst norm", k),
-        listing::Normed::Refused(k) => say(b"worst norm refused", k),
+fn run(held: &[usize; 16], weights: &[u8], tables: &[u8], d: &[u8], digits: &[u8], steps: &mut [u16]) {
+    let answer = program::run(
+        held[0],
+        held[1],
+        held[2],
+        held[3],
+        held[4],
+        weights,
+        tables,
+        d,
+        steps,
+        digits,
+    );
+    match answer {
+        program::Ran::Done(y, count) => {
+            say(b"y", y as usize);
+            say(b"bootstraps", count);
+        }
+        program::Ran::Refused(k) => say(b"refused", k as usize),
     }
 }
 
 // The worst norm.
-pub fn norm(
-    p: usize,
-    s: usize,
-    n: usize,
-    m: usize,
-    t: usize,
+fn norm(held: &[usize; 16], weights: &[u8], tables: &[u8], d: &[u8], beta: &[u8]) {
+    let answer = listing::worst_norm(
+        held[0],
+        held[1],
+        held[2],
+        held[3],
+        held[4],
+        weights,
+        tables,
+        d,
+        beta,
+    );
+    match answer {
+        listing::Normed::Norm(k) => say(b"norm", k),
+        listing::Normed::Refused(k) => say(b"refused", k as usize),
+    }
+}
+
+// held[0], held[1], held[2], held[3], held[4], weights, tables, dow many bytes from `j` on are not 9.
+fn changed(out: &[u8], begin: usize) -> usize {
+    let mut count: usize = 0;
+    let mut j = begin;
+    while j < out.len() {
+        if out[j] != 9 {
+            count += 1;
+        }
+        j += 1;
+    }
+    count
+}
+
+// A text printed into the first bytes of 131,072 nines: the output, and how many bytes behind it have changed.
+fn print_text(text: &[u8], room: usize) {
+    let mut out = [9u8; 131072];
+    let end = text::print_text(text, lent(&mut out, room));
+    say(b"length", end);
+    io::write_all(1, front(&out, end));
+    say(b"changed behind it", changed(&out, end));
+}
+
+// The call k with what is held.
+pub fn call(
+    k: usize,
+    held: &[usize; 16],
+    args: &[usize; 2048],
     weights: &[u8],
     tables: &[u8],
     d: &[u8],
-    beta: &[u8],
+    row: &mut [u8],
+    store: &mut [u8],
+    beta: &mut [u8],
+    digits: &[u8],
+    steps: &mut [u16],
+    text: &[u8],
 ) {
-    normed(listing::worst_norm(p, s, n, m, t, weights, tables, d, beta));
+    let weights = front(weights, held[5]);
+    let tables = front(tables, held[6]);
+    let d = front(d, held[7]);
+    match k {
+        9 | 10 => on_plan(k, held, weights, tables, d, lent(row, held[8]), args[0]),
+        12 => file(
+            held,
+            weights,
+            tables,
+            d,
+            lent(store, held[9]),
+            args[0],
+            args[1],
+        ),
+        11 | 13 => on_store(
+            k,
+            held,
+            weights,
+            tables,
+            d,
+            front(store, held[9]),
+            lent(beta, held[10]),
+        ),
+        14..=16 => on_program(
+            k,
+            held,
+            weights,
+            tables,
+            d,
+            front(beta, held[10]),
+            lent_steps(steps, held[12]),
+        ),
+        17 => run(
+            held,
+            weights,
+            tables,
+            d,
+            front(digits, held[11]),
+            lent_steps(steps, held[12]),
+        ),
+        18 => norm(held, weights, tables, d, front(beta, held[10])),
+        _ => print_text(front(text, held[13]), args[0]),
+    }
 }
