@@ -147,7 +147,9 @@ fn file(
     );
     match answer {
         store::Filed::New(column) => say(b"new", column),
-        store::Filed::Implied => say(b"implied", 0),
+        store::Filed::Implied => {
+            io::write_all(1, b"= implied\n");
+        }
         store::Filed::Refused(k) => say(b"refused", k as usize),
     }
     bytes(b"= store", store);
@@ -225,7 +227,14 @@ fn on_program(
 }
 
 // A run.
-fn run(held: &[usize; 16], weights: &[u8], tables: &[u8], d: &[u8], digits: &[u8], steps: &mut [u16]) {
+fn run(
+    held: &[usize; 16],
+    weights: &[u8],
+    tables: &[u8],
+    d: &[u8],
+    digits: &[u8],
+    steps: &mut [u16],
+) {
     let answer = program::run(
         held[0],
         held[1],

@@ -98,7 +98,8 @@ fn obey(
         _ => {}
     }
     let k = find(
-        b"plan weights tables d row store beta digits steps plan::check plan::row store::test store::file store::coefficients program::check_writing program::write_into program::write program::run listing::worst_norm text::print_text ",
+        b"plan weights tables d row store beta digits steps plan::check plan::row store::test store::file store::coefficients \
+          program::check_writing program::write_into program::write program::run listing::worst_norm text::print_text ",
         line,
     );
     let count = numbers(line, args);

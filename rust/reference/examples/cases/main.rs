@@ -1,118 +1,213 @@
-//! What the library's program `cases` must print, from the reference: the same
-//! calls in the same order, and the same lines. Its modules stand for those of
-//! crates/cases/src. The stored output is made by it, and never by the program
-//! itself; a test holds the two equal (tests/stored_cases.rs).
+//! What the library's program `cases` must print for its test vectors,
+//! crates/cases/stdin, from the reference: an interpreter of them, written from
+//! crates/cases/README.md, which says what each line means. The stored output
+//! is made by it, and never by the program itself; a test holds the two equal
+//! (tests/stored_cases.rs).
 //!
-//!     cargo run --release --offline -p reference --example cases > ../crates/cases/stdout
-#![allow(clippy::too_many_arguments)]
+//!     cargo run --release --offline -p reference --example cases < ../crates/cases/stdin > ../crates/cases/stdout
 
-mod calls;
-mod every;
-mod norms;
-mod orders;
-mod own;
-mod programs;
-mod rows;
-mod stores;
-mod texts;
+use reference::Filed;
+use std::fmt::Display;
 
-use calls::{Out, Plan};
-
-/// Checks a plan whose parts are so many zeros each.
-fn zeros(out: &mut Out, name: &str, numbers: [u64; 5], lengths: [usize; 3]) {
-    let [weights, tables, d] = lengths.map(|length| vec![0; length]);
-    let plan = Plan {
-        numbers,
-        weights: &weights,
-        tables: &tables,
-        d: &d,
-    };
-    let number = plan.check();
-    out.say(name, number);
+/// What is set, and what was printed.
+#[derive(Default)]
+struct Cases {
+    plan: [u64; 5],
+    weights: Vec<u8>,
+    tables: Vec<u8>,
+    d: Vec<u8>,
+    row: Vec<u8>,
+    store: Vec<u8>,
+    beta: Vec<u8>,
+    digits: Vec<u8>,
+    steps: Vec<u16>,
+    text: Vec<u8>,
+    out: Vec<u8>,
 }
 
-const MAX: u64 = u64::MAX;
+/// Calls a function of the reference with the plan, then the call's own parts.
+macro_rules! call {
+    ($f:ident, $cases:expr $(, $own:expr)*) => {{
+        let [p, s, n, m, t] = $cases.plan;
+        reference::$f(p, s, n, m, t, &$cases.weights, &$cases.tables, &$cases.d $(, $own)*)
+    }};
+}
 
-fn primes(out: &mut Out) {
-    for p in [0, 1, 2, 3, 9, 251, 253, 257, 65539] {
-        zeros(out, &format!("p={p}"), [p, 2, 1, 0, 0], [0, 0, 0]);
+/// The most numbers that a line has.
+const MOST: usize = 2048;
+/// Room enough for every text; with less, nothing is printed.
+const ROOM: usize = 131_072;
+
+/// A number's digits; above 2^64 - 1 it stays there.
+fn number(digits: &str) -> Option<u64> {
+    digits.bytes().try_fold(0_u64, |value, byte| {
+        let digit = byte.is_ascii_digit().then(|| u64::from(byte - b'0'))?;
+        Some(value.saturating_mul(10).saturating_add(digit))
+    })
+}
+
+/// The numbers of a line, `20*2` twenty times. None where it is malformed.
+fn numbers(words: &str) -> Option<Vec<u64>> {
+    let mut all = Vec::new();
+    for word in words.split(' ') {
+        let (times, value) = word.split_once('*').unwrap_or(("1", word));
+        let times = usize::try_from(number(times)?).ok()?;
+        if times > MOST - all.len() {
+            return None;
+        }
+        all.resize(all.len() + times, number(value)?);
     }
-    zeros(out, "p=max", [MAX, 2, 1, 0, 0], [0, 0, 0]);
+    Some(all)
 }
 
-fn radices(out: &mut Out) {
-    for (name, p, s) in [
-        ("s=0", 3, 0),
-        ("s=1", 3, 1),
-        ("s=p", 3, 3),
-        ("s=p+1", 3, 4),
-        ("s=251", 251, 251),
-        ("s=max", 3, MAX),
-    ] {
-        zeros(out, name, [p, s, 1, 0, 0], [0, 0, 0]);
+impl Cases {
+    fn say(&mut self, name: &str, number: impl Display) {
+        self.print(&format!("= {name} {number}\n"));
+    }
+
+    fn print(&mut self, line: &str) {
+        self.out.extend_from_slice(line.as_bytes());
+    }
+
+    /// Every number of a part.
+    fn whole<T: Display>(&mut self, name: &str, part: &[T]) {
+        let numbers: String = part.iter().map(|number| format!(" {number}")).collect();
+        self.print(&format!("= {name}{numbers}\n"));
+    }
+
+    /// A line without its LF.
+    fn line(&mut self, line: &str) {
+        self.print(&format!("{line}\n"));
+        if let Some(text) = line.strip_prefix('>') {
+            self.text.extend_from_slice(format!("{text}\n").as_bytes());
+        } else if !line.is_empty() && !line.starts_with('#') {
+            let (word, numbers) = match line.split_once(' ') {
+                None => (line, Some(Vec::new())),
+                Some((word, words)) => (word, numbers(words)),
+            };
+            let done = numbers.and_then(|numbers| self.command(word, &numbers));
+            done.unwrap_or_else(|| self.print("= malformed\n"));
+        }
+    }
+
+    /// A command; None where there is no such command with so many numbers.
+    fn command(&mut self, word: &str, numbers: &[u64]) -> Option<()> {
+        let bytes = || numbers.iter().map(|number| *number as u8).collect();
+        match (word, numbers) {
+            ("plan", _) => self.plan = numbers.try_into().ok()?,
+            ("weights", _) => self.weights = bytes(),
+            ("tables", _) => self.tables = bytes(),
+            ("d", _) => self.d = bytes(),
+            ("row", _) => self.row = bytes(),
+            ("store", _) => self.store = bytes(),
+            ("beta", _) => self.beta = bytes(),
+            ("digits", _) => self.digits = bytes(),
+            ("steps", _) => self.steps = numbers.iter().map(|number| *number as u16).collect(),
+            ("plan::check", []) => self.say("number", call!(check_plan, self)),
+            ("plan::row", [entry]) => self.row(*entry),
+            ("store::test", []) => self.say("number", call!(test_store, self, &self.store)),
+            ("store::file", [entry, value]) => self.file(*entry, *value),
+            ("store::coefficients", []) => self.coefficients(),
+            ("program::check_writing", []) => self.say("number", self.check_writing()),
+            ("program::write_into", []) => self.write_into(),
+            ("program::write", []) => self.write(),
+            ("program::run", []) => self.run(),
+            ("listing::worst_norm", []) => self.worst_norm(),
+            ("text::print_text", [room]) => self.print_text(*room),
+            _ => return None,
+        }
+        Some(())
+    }
+
+    fn row(&mut self, entry: u64) {
+        let mut row = self.row.clone();
+        self.say("number", call!(row, self, entry, &mut row));
+        self.whole("row", &row);
+        self.row = row;
+    }
+
+    fn file(&mut self, entry: u64, value: u64) {
+        let mut store = self.store.clone();
+        match call!(file, self, &mut store, entry, value) {
+            Filed::New(column) => self.say("new", column),
+            Filed::Implied => self.print("= implied\n"),
+            Filed::Refused(number) => self.say("refused", number),
+        }
+        self.whole("store", &store);
+        self.store = store;
+    }
+
+    fn coefficients(&mut self) {
+        let (store, mut beta) = (self.store.clone(), self.beta.clone());
+        self.say("number", call!(coefficients, self, &store, &mut beta));
+        self.whole("beta", &beta);
+        self.whole("store", &store);
+        self.beta = beta;
+    }
+
+    fn check_writing(&self) -> u32 {
+        call!(check_writing, self, &self.beta, &self.steps)
+    }
+
+    /// The reference has no writer that answers the number: it is that of the
+    /// check.
+    fn write_into(&mut self) {
+        let mut steps = self.steps.clone();
+        self.say("number", self.check_writing());
+        call!(write, self, &self.beta, &mut steps);
+        self.whole("steps", &steps);
+        self.steps = steps;
+    }
+
+    fn write(&mut self) {
+        let mut steps = self.steps.clone();
+        self.say("length", call!(write, self, &self.beta, &mut steps).len());
+        self.whole("steps", &steps);
+        self.steps = steps;
+    }
+
+    fn run(&mut self) {
+        match call!(run, self, &self.steps, &self.digits) {
+            Ok(ran) => {
+                self.say("y", ran.y);
+                self.say("bootstraps", ran.bootstraps);
+            }
+            Err(number) => self.say("refused", number),
+        }
+    }
+
+    fn worst_norm(&mut self) {
+        match call!(worst_norm, self, &self.beta) {
+            Ok(norm) => self.say("norm", norm),
+            Err(number) => self.say("refused", number),
+        }
+    }
+
+    fn print_text(&mut self, room: u64) {
+        let mut slice = [9; ROOM];
+        let text = std::mem::take(&mut self.text);
+        let printed = match room < ROOM as u64 {
+            true => Vec::new(),
+            false => reference::filing_program(&text),
+        };
+        slice[..printed.len()].copy_from_slice(&printed);
+        self.say("length", printed.len());
+        self.out.extend_from_slice(&printed);
+        let behind = &slice[printed.len()..];
+        let changed = behind.iter().filter(|byte| **byte != 9).count();
+        self.say("changed behind it", changed);
     }
 }
 
-fn ranges(out: &mut Out) {
-    for (name, numbers, lengths) in [
-        ("n=0", [3, 2, 0, 1, 0], [0, 3, 0]),
-        ("n=0 m=0", [3, 2, 0, 0, 0], [0, 0, 0]),
-        ("2^12 entries", [3, 2, 12, 0, 0], [0, 0, 0]),
-        ("2^13 entries", [3, 2, 13, 0, 0], [0, 0, 0]),
-        ("64^2 entries", [67, 64, 2, 0, 0], [0, 0, 0]),
-        ("67^2 entries", [67, 67, 2, 0, 0], [0, 0, 0]),
-        ("2^64 entries", [3, 2, 64, 0, 0], [0, 0, 0]),
-        ("n=65", [3, 2, 65, 0, 0], [0, 0, 0]),
-        ("n=max", [3, 2, MAX, 0, 0], [0, 0, 0]),
-        ("n=max m=1", [3, 2, MAX, 1, 0], [0, 0, 0]),
-        ("L=64", [3, 2, 1, 63, 0], [2016, 189, 0]),
-        ("L=65", [3, 2, 1, 64, 0], [0, 0, 0]),
-        ("n=2 m=max", [3, 2, 2, MAX, 0], [0, 0, 0]),
-        ("m=max", [3, 2, 1, MAX, 0], [0, 0, 0]),
-        ("L=64 t=15", [3, 2, 1, 63, 15], [2016, 189, 960]),
-        ("L=64 t=16", [3, 2, 1, 63, 16], [2016, 189, 1024]),
-        ("t=32", [3, 2, 1, 0, 32], [0, 0, 32]),
-        ("t=33", [3, 2, 1, 0, 33], [0, 0, 33]),
-        ("t=max", [3, 2, 1, 0, MAX], [0, 0, 0]),
-        ("all max", [3, 2, MAX, MAX, MAX], [0, 0, 0]),
-    ] {
-        zeros(out, name, numbers, lengths);
-    }
-}
-
-fn lengths(out: &mut Out) {
-    for (name, lengths) in [
-        ("exact", [2, 3, 3]),
-        ("weights short", [1, 3, 3]),
-        ("weights long", [3, 3, 3]),
-        ("tables short", [2, 2, 3]),
-        ("tables long", [2, 4, 3]),
-        ("d short", [2, 3, 2]),
-        ("d long", [2, 3, 4]),
-    ] {
-        zeros(out, name, [3, 2, 2, 1, 1], lengths);
-    }
-}
-
-/// Everything that the program prints.
-pub fn output() -> String {
-    let mut out = Out::default();
-    primes(&mut out);
-    radices(&mut out);
-    ranges(&mut out);
-    lengths(&mut out);
-    rows::all(&mut out);
-    stores::all(&mut out);
-    programs::all(&mut out);
-    every::all(&mut out);
-    own::all(&mut out);
-    norms::all(&mut out);
-    orders::all(&mut out);
-    texts::all(&mut out);
-    out.0
+/// Everything that the program prints for these vectors.
+pub fn output(vectors: &str) -> Vec<u8> {
+    let mut cases = Cases::default();
+    vectors.lines().for_each(|line| cases.line(line));
+    cases.out
 }
 
 #[allow(dead_code)]
-fn main() {
-    print!("{}", output());
+fn main() -> std::io::Result<()> {
+    let vectors = std::io::read_to_string(std::io::stdin())?;
+    std::io::Write::write_all(&mut std::io::stdout(), &output(&vectors))
 }
