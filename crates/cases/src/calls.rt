@@ -300,29 +300,25 @@ fn print_text(text: &[u8], room: usize) {
 // The call k with what is held.
 pub fn call(
     k: usize,
-    held: &[usize; 16],
     args: &[usize; 2048],
-    weights: &[u8],
-    tables: &[u8],
-    d: &[u8],
+    held: &[usize; 16],
+    parts: &[[u8; 2048]; 5],
     row: &mut [u8],
     store: &mut [u8],
     beta: &mut [u8],
-    digits: &[u8],
     steps: &mut [u16],
-    text: &[u8],
 ) {
-    let weights = front(weights, held[5]);
-    let tables = front(tables, held[6]);
-    let d = front(d, held[7]);
+    let weights = front(&parts[1], held[9]);
+    let tables = front(&parts[2], held[10]);
+    let d = front(&parts[3], held[11]);
     match k {
-        9 | 10 => on_plan(k, held, weights, tables, d, lent(row, held[8]), args[0]),
+        9 | 10 => on_plan(k, held, weights, tables, d, lent(row, held[13]), args[0]),
         12 => file(
             held,
             weights,
             tables,
             d,
-            lent(store, held[9]),
+            lent(store, held[14]),
             args[0],
             args[1],
         ),
@@ -332,8 +328,8 @@ pub fn call(
             weights,
             tables,
             d,
-            front(store, held[9]),
-            lent(beta, held[10]),
+            front(store, held[14]),
+            lent(beta, held[15]),
         ),
         14..=16 => on_program(
             k,
@@ -341,18 +337,18 @@ pub fn call(
             weights,
             tables,
             d,
-            front(beta, held[10]),
-            lent_steps(steps, held[12]),
+            front(beta, held[15]),
+            lent_steps(steps, held[5]),
         ),
         17 => run(
             held,
             weights,
             tables,
             d,
-            front(digits, held[11]),
-            lent_steps(steps, held[12]),
+            front(&parts[4], held[12]),
+            lent_steps(steps, held[5]),
         ),
-        18 => norm(held, weights, tables, d, front(beta, held[10])),
-        _ => print_text(front(text, held[13]), args[0]),
+        18 => norm(held, weights, tables, d, front(beta, held[15])),
+        _ => print_text(front(&parts[0], held[8]), args[0]),
     }
 }

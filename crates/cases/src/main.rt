@@ -21,13 +21,10 @@ fn set(
     count: usize,
     args: &[usize; 2048],
     held: &mut [usize; 16],
-    weights: &mut [u8; 2048],
-    tables: &mut [u8; 2048],
-    d: &mut [u8; 2048],
+    parts: &mut [[u8; 2048]; 5],
     row: &mut [u8; 2048],
     store: &mut [u8; 2048],
     beta: &mut [u8; 2048],
-    digits: &mut [u8; 2048],
     steps: &mut [u16; 2048],
 ) {
     match k {
@@ -38,67 +35,42 @@ fn set(
             held[3] = args[3];
             held[4] = args[4];
         }
-        1 => {
-            held[5] = count;
-            put(weights, args);
-        }
-        2 => {
-            held[6] = count;
-            put(tables, args);
-        }
-        3 => {
-            held[7] = count;
-            put(d, args);
-        }
-        4 => {
-            held[8] = count;
-            put(row, args);
+        1..=4 => {
+            held[k + 8] = count;
+            put(&mut parts[k], args);
         }
         5 => {
-            held[9] = count;
-            put(store, args);
+            held[13] = count;
+            put(row, args);
         }
         6 => {
-            held[10] = count;
-            put(beta, args);
+            held[14] = count;
+            put(store, args);
         }
         7 => {
-            held[11] = count;
-            put(digits, args);
+            held[15] = count;
+            put(beta, args);
         }
         _ => {
-            held[12] = count;
+            held[5] = count;
             put_steps(steps, args);
         }
     }
 }
 
-// A line: a name, a line of a text, or a command.
-fn obey(
+// A command.
+fn command(
     line: &[u8],
     args: &mut [usize; 2048],
     held: &mut [usize; 16],
-    weights: &mut [u8; 2048],
-    tables: &mut [u8; 2048],
-    d: &mut [u8; 2048],
+    parts: &mut [[u8; 2048]; 5],
     row: &mut [u8; 2048],
     store: &mut [u8; 2048],
     beta: &mut [u8; 2048],
-    digits: &mut [u8; 2048],
     steps: &mut [u16; 2048],
-    text: &mut [u8; 2048],
 ) {
-    io::write_all(1, line);
-    match byte(line, 0) {
-        b'#' | b'\n' => return,
-        b'>' => {
-            held[13] = append(text, held[13], line);
-            return;
-        }
-        _ => {}
-    }
     let k = find(
-        b"plan weights tables d row store beta digits steps plan::check plan::row store::test store::file store::coefficients \
+        b"plan weights tables d digits row store beta steps plan::check plan::row store::test store::file store::coefficients \
           program::check_writing program::write_into program::write program::run listing::worst_norm text::print_text ",
         line,
     );
@@ -108,38 +80,33 @@ fn obey(
         return;
     }
     if k < 9 {
-        set(
-            k,
-            count,
-            args,
-            held,
-            weights,
-            tables,
-            d,
-            row,
-            store,
-            beta,
-            digits,
-            steps,
-        );
-    } else {
-        call(
-            k,
-            held,
-            args,
-            weights,
-            tables,
-            d,
-            row,
-            store,
-            beta,
-            digits,
-            steps,
-            text,
-        );
+        set(k, count, args, held, parts, row, store, beta, steps);
+        return;
     }
+    call(k, args, held, parts, row, store, beta, steps);
     if k == 19 {
-        held[13] = 0;
+        held[8] = 0;
+    }
+}
+
+// A line: a name, a line of a text, or a command.
+fn obey(
+    line: &[u8],
+    args: &mut [usize; 2048],
+    held: &mut [usize; 16],
+    parts: &mut [[u8; 2048]; 5],
+    row: &mut [u8; 2048],
+    store: &mut [u8; 2048],
+    beta: &mut [u8; 2048],
+    steps: &mut [u16; 2048],
+) {
+    io::write_all(1, line);
+    match byte(line, 0) {
+        b'#' | b'\n' => {}
+        b'>' => {
+            held[8] = append(&mut parts[0], held[8], line);
+        }
+        _ => command(line, args, held, parts, row, store, beta, steps),
     }
 }
 
@@ -147,15 +114,11 @@ fn obey(
 fn every_line(input: &[u8]) {
     let mut args = [0usize; 2048];
     let mut held = [0usize; 16];
-    let mut weights = [0u8; 2048];
-    let mut tables = [0u8; 2048];
-    let mut d = [0u8; 2048];
+    let mut parts = [[0u8; 2048]; 5];
     let mut row = [0u8; 2048];
     let mut store = [0u8; 2048];
     let mut beta = [0u8; 2048];
-    let mut digits = [0u8; 2048];
     let mut steps = [0u16; 2048];
-    let mut text = [0u8; 2048];
     let mut at: usize = 0;
     while at < input.len() {
         let end = line_end(input, at);
@@ -163,15 +126,11 @@ fn every_line(input: &[u8]) {
             &input[at..end],
             &mut args,
             &mut held,
-            &mut weights,
-            &mut tables,
-            &mut d,
+            &mut parts,
             &mut row,
             &mut store,
             &mut beta,
-            &mut digits,
             &mut steps,
-            &mut text,
         );
         at = end;
     }

@@ -7,10 +7,10 @@ use Rattle.cases.proofs.every_line.Statement.{statement}
 use Rattle.cases.proofs.every_line.Tie as tie
 
 abbrev Inv-loop : tie.InvT-loop
-Inv-loop input args₀ held₀ weights₀ tables₀ d₀ row₀ store₀ beta₀ digits₀ steps₀ text₀ at₀ args held weights tables d row store beta digits steps text at = at ≤ length input
+Inv-loop input args₀ held₀ parts₀ row₀ store₀ beta₀ steps₀ at₀ args held parts row store beta steps at = at ≤ length input
 
 abbrev μ-loop : tie.MeasureT-loop
-μ-loop input args₀ held₀ weights₀ tables₀ d₀ row₀ store₀ beta₀ digits₀ steps₀ text₀ at₀ args held weights tables d row store beta digits steps text at = length input - at
+μ-loop input args₀ held₀ parts₀ row₀ store₀ beta₀ steps₀ at₀ args held parts row store beta steps at = length input - at
 
 loop-holds : tie.Need-loop-holds Inv-loop μ-loop
 loop-holds c = omega arith
