@@ -1,4 +1,4 @@
-// Each call with its answer, and after it every byte of a part that it was lent to write. `held` has the plan's numbers first.
+// Each call with its answer, and after it every byte of a part that it was lent to write. Calls and `held` are numbered as in main.rt.
 use crate::parts::front;
 use crate::parts::lent;
 use crate::parts::lent_steps;

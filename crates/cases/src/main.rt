@@ -1,4 +1,7 @@
-// The cases.
+// The cases that programs check: an interpreter of the vectors in `stdin`, whose language is in README.md. Standard input is read whole; each
+// line is printed, and what it says is done. Commands are numbered in the order in which `command` names them: 0 to 8 set something, 9 to
+// 19 are calls. What is set: `held` has the plan's five numbers at 0 to 4, the length of the step slice at 5, of the text at 8, and of weights,
+// tables, d, digits, row, store and beta at 9 to 15; `parts` has the text, weights, tables, d and digits, and the others stand beside it.
 ghost use Prim.Native.Nat.{_≤_, _<_};
 ghost use lib.ListN.{length};
 use crate::calls::call;
