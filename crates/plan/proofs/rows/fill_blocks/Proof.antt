@@ -119,7 +119,7 @@ loop-again c =
     let pre = start (r .before) .pre in
     let dot = c .before .before .before .before .dot in (
       block-turn (args .plan) (args .d .now) (args .x .now) (size r) (r .loop .b) (dot .result) (r .loop .inv .0) (r .loop .inv .1)
-      (r .before .variables .ensures) (then .if1 .taken) (pre .1 .1 .0 .0) (pre .1 .0) (dot .ensures) (c .before .before .set-multiple .ensures),
+          (r .before .variables .ensures) (then .if1 .taken) (pre .1 .1 .0 .0) (pre .1 .0) (dot .ensures) (c .before .before .set-multiple .ensures),
       omega (arith, r .before .variables .ensures, r .loop .inv .1),
       omega arith,
     )
