@@ -275,7 +275,7 @@ fn norm(held: &[usize; 16], weights: &[u8], tables: &[u8], d: &[u8], beta: &[u8]
     }
 }
 
-// held[0], held[1], held[2], held[3], held[4], weights, tables, dow many bytes from `j` on are not 9.
+// How many bytes from `begin` on are not 9.
 fn changed(out: &[u8], begin: usize) -> usize {
     let mut count: usize = 0;
     let mut j = begin;
