@@ -288,17 +288,18 @@ fn changed(out: &[u8], begin: usize) -> usize {
     count
 }
 
-// A text printed into the first bytes of 131,072 nines: the output, and how many bytes behind it have changed.
-fn print_text(text: &[u8], room: usize) {
+// The text printed into the first bytes of 131,072 nines: the output, and how many bytes behind it have changed. Then the text is empty.
+pub fn print_text(held: &mut [usize; 16], parts: &[[u8; 2048]; 5], room: usize) {
     let mut out = [9u8; 131072];
-    let end = text::print_text(text, lent(&mut out, room));
+    let end = text::print_text(front(&parts[0], held[8]), lent(&mut out, room));
     say(b"length", end);
     io::write_all(1, front(&out, end));
     say(b"changed behind it", changed(&out, end));
+    held[8] = 0;
 }
 
-// The call k with what is held.
-pub fn call(
+// The calls 9 to 13, on a plan and a store.
+pub fn with_store(
     k: usize,
     args: &[usize; 2048],
     held: &[usize; 16],
@@ -306,7 +307,6 @@ pub fn call(
     row: &mut [u8],
     store: &mut [u8],
     beta: &mut [u8],
-    steps: &mut [u16],
 ) {
     let weights = front(&parts[1], held[9]);
     let tables = front(&parts[2], held[10]);
@@ -322,7 +322,7 @@ pub fn call(
             args[0],
             args[1],
         ),
-        11 | 13 => on_store(
+        _ => on_store(
             k,
             held,
             weights,
@@ -331,15 +331,21 @@ pub fn call(
             front(store, held[14]),
             lent(beta, held[15]),
         ),
-        14..=16 => on_program(
-            k,
-            held,
-            weights,
-            tables,
-            d,
-            front(beta, held[15]),
-            lent_steps(steps, held[5]),
-        ),
+    }
+}
+
+// The calls 14 to 18, about a program.
+pub fn with_program(
+    k: usize,
+    held: &[usize; 16],
+    parts: &[[u8; 2048]; 5],
+    beta: &[u8],
+    steps: &mut [u16],
+) {
+    let weights = front(&parts[1], held[9]);
+    let tables = front(&parts[2], held[10]);
+    let d = front(&parts[3], held[11]);
+    match k {
         17 => run(
             held,
             weights,
@@ -349,6 +355,14 @@ pub fn call(
             lent_steps(steps, held[5]),
         ),
         18 => norm(held, weights, tables, d, front(beta, held[15])),
-        _ => print_text(front(&parts[0], held[8]), args[0]),
+        _ => on_program(
+            k,
+            held,
+            weights,
+            tables,
+            d,
+            front(beta, held[15]),
+            lent_steps(steps, held[5]),
+        ),
     }
 }

@@ -4,7 +4,9 @@
 // tables, d, digits, row, store and beta at 9 to 15; `parts` has the text, weights, tables, d and digits, and the others stand beside it.
 ghost use Prim.Native.Nat.{_≤_, _<_};
 ghost use lib.ListN.{length};
-use crate::calls::call;
+use crate::calls::print_text;
+use crate::calls::with_program;
+use crate::calls::with_store;
 use crate::lines::byte;
 use crate::lines::find;
 use crate::lines::line_end;
@@ -21,7 +23,6 @@ mod parts;
 // Sets the plan's numbers, or a part.
 fn set(
     k: usize,
-    count: usize,
     args: &[usize; 2048],
     held: &mut [usize; 16],
     parts: &mut [[u8; 2048]; 5],
@@ -39,39 +40,37 @@ fn set(
             held[4] = args[4];
         }
         1..=4 => {
-            held[k + 8] = count;
+            held[k + 8] = held[6];
             put(&mut parts[k], args);
         }
         5 => {
-            held[13] = count;
+            held[13] = held[6];
             put(row, args);
         }
         6 => {
-            held[14] = count;
+            held[14] = held[6];
             put(store, args);
         }
         7 => {
-            held[15] = count;
+            held[15] = held[6];
             put(beta, args);
         }
         _ => {
-            held[5] = count;
+            held[5] = held[6];
             put_steps(steps, args);
         }
     }
 }
 
-// A command.
-fn command(
-    line: &[u8],
-    args: &mut [usize; 2048],
-    held: &mut [usize; 16],
-    parts: &mut [[u8; 2048]; 5],
-    row: &mut [u8; 2048],
-    store: &mut [u8; 2048],
-    beta: &mut [u8; 2048],
-    steps: &mut [u16; 2048],
-) {
+// Prints a line, and reads a command: its numbers into `args`, how many they are into held[6]. Answers which it is, 20 for a line of a text,
+// and 21 for a name or a malformed line.
+fn read(line: &[u8], args: &mut [usize; 2048], held: &mut [usize; 16]) -> usize {
+    io::write_all(1, line);
+    match byte(line, 0) {
+        b'#' | b'\n' => return 21,
+        b'>' => return 20,
+        _ => {}
+    }
     let k = find(
         b"plan weights tables d digits row store beta steps plan::check plan::row store::test store::file store::coefficients \
           program::check_writing program::write_into program::write program::run listing::worst_norm text::print_text ",
@@ -80,19 +79,13 @@ fn command(
     let count = numbers(line, args);
     if wanted(k, count) != count {
         io::write_all(1, b"= malformed\n");
-        return;
+        return 21;
     }
-    if k < 9 {
-        set(k, count, args, held, parts, row, store, beta, steps);
-        return;
-    }
-    call(k, args, held, parts, row, store, beta, steps);
-    if k == 19 {
-        held[8] = 0;
-    }
+    held[6] = count;
+    k
 }
 
-// A line: a name, a line of a text, or a command.
+// A line.
 fn obey(
     line: &[u8],
     args: &mut [usize; 2048],
@@ -103,13 +96,14 @@ fn obey(
     beta: &mut [u8; 2048],
     steps: &mut [u16; 2048],
 ) {
-    io::write_all(1, line);
-    match byte(line, 0) {
-        b'#' | b'\n' => {}
-        b'>' => {
-            held[8] = append(&mut parts[0], held[8], line);
-        }
-        _ => command(line, args, held, parts, row, store, beta, steps),
+    let k = read(line, args, held);
+    match k {
+        0..=8 => set(k, args, held, parts, row, store, beta, steps),
+        9..=13 => with_store(k, args, held, parts, row, store, beta),
+        14..=18 => with_program(k, held, parts, beta, steps),
+        19 => print_text(held, parts, args[0]),
+        20 => held[8] = append(&mut parts[0], held[8], line),
+        _ => {}
     }
 }
 
