@@ -1,4 +1,4 @@
-// Each call with its answer, and after it every byte of a part that it was lent to write. Calls and `held` are numbered as in main.rt.
+// Each call with its answer, and after it every byte of a part that it was lent to write. A call k is one of 9 to 19, and `held` is as main.rt says.
 use crate::parts::front;
 use crate::parts::lent;
 use crate::parts::lent_steps;
@@ -12,7 +12,7 @@ fn say(name: &[u8], number: usize) {
     io::write_all(1, b"\n");
 }
 
-// A byte after a space.
+// A number after a space.
 fn next(number: usize) {
     io::write_all(1, b" ");
     io::print_decimal(1, number as u64);

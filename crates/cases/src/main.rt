@@ -1,9 +1,10 @@
-// The cases that programs check: an interpreter of the vectors in `stdin`, whose language is in README.md. Standard input is read whole; each
-// line is printed, and what it says is done. Commands are numbered in the order in which `command` names them: 0 to 8 set something, 9 to
-// 19 are calls. What is set: `held` has the plan's five numbers at 0 to 4, the length of the step slice at 5, of the text at 8, and of weights,
-// tables, d, digits, row, store and beta at 9 to 15; `parts` has the text, weights, tables, d and digits, and the others stand beside it.
-ghost use Prim.Native.Nat.{_≤_, _<_};
-ghost use lib.ListN.{length};
+// The cases of 01 that are left to programs, the extremes of each number, each refusal of each call, and pairs of causes in one call: an
+// interpreter of the test vectors in `stdin`. README.md beside src/ says what each line means and what is printed; `stdout` has what that
+// must be, made by rust/reference/examples/cases.
+//
+// A command is known by its place among the words in `read`, from 0. `args` has the numbers of the line. `held` has p s n m t, then at 5 the
+// length of the step slice, at 6 the count of the line's numbers, and from 8 the lengths of the byte parts: the text, weights, tables, d and
+// digits, which stand in `parts`, then row, store and beta, which calls may write.
 use crate::calls::print_text;
 use crate::calls::with_program;
 use crate::calls::with_store;
