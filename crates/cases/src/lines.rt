@@ -38,8 +38,9 @@ pub fn find(words: &[u8], line: &[u8]) -> usize {
         let b = byte(line, j);
         if words[i] == b' ' {
             if same {
-                if b <= b' ' {
-                    return k;
+                match b {
+                    b' ' | b'\n' => return k,
+                    _ => {}
                 }
             }
             same = true;
