@@ -1,5 +1,4 @@
--- The size of a listing: how many steps a plan within its limits has, and how small the numbers of a written step are.
---     few-steps        at most 5,000 steps
+-- The size of a listing: how small the numbers of a written step are, and how many steps there are.
 --     small-steps      each number of the written program is below 1,000
 --     step-count       the number of its steps
 --     listing-as       the listing from what is written one after the other
@@ -9,7 +8,6 @@ use mathlib.Core.Bool.{Bool, true, false, cond, _&&_}
 use mathlib.Core.List.{List, [], _∷_, _++_, append-assoc}
 use Prim.Native.Nat.{ℕ, zero, suc, _+_, _*_, _/_, _%_, _≤_, _<_}
 use native.Mathlib.Decide.{decLt}
-use native.Mathlib.Nat.{mul-le-mul}
 use native.Mathlib.Omega.{arith}
 use lib.Dec.{eqb, ltb, leb}
 use lib.ListN.{length}
@@ -24,17 +22,10 @@ use Rattle.plan.proofs.Bounds.{prime-high}
 use Rattle.program.specs.Steps.{kindOf, toOf, fromOf, byOf, lastRegister, goodStep, wellFormed}
 use Rattle.program.specs.Layout.{layout, stepCount}
 use Rattle.program.proofs.Pieces.{goodAt}
-use Rattle.program.proofs.Shape.{one-less, layout-length, layout-wellFormed}
+use Rattle.program.proofs.Shape.{layout-length, layout-wellFormed}
 use Rattle.listing.specs.Norm.{worst}
 use Rattle.listing.specs.Decimal.{line}
 use Rattle.listing.specs.Printed.{figureNames, stepNames, stepLine, listing}
-
--- 2mn + m² is below L², and t(2L + 12) is below 2C + 12t
-pub few-steps : (P : Plan) → Within P → stepCount P ≤ 5000
-unfolding stepCount
-few-steps P within =
-    let whole : (P .n + P .m) * (P .n + P .m) ≤ 64 * 64 = mul-le-mul (within .variable-limit) (within .variable-limit) in
-    omega (arith, whole, one-less (P .m), within .column-limit, within .product-limit, within .variable-limit)
 
 -- one step's numbers
 record Small (kind to from by : ℕ) : Type 0 where

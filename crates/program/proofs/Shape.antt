@@ -2,7 +2,7 @@
 --     layout-length          4 times the step count
 --     layout-wellFormed      none of the conditions of cause 11, where weights, d and β are residues
 --     layout-bootstraps      m + 2t
---     step-limit             the step count of a checked plan is small
+--     step-limit             a checked plan has at most 5,000 steps
 --     link-length, product-length, adds-length       the lengths of its pieces
 -- Assumes nothing.
 use mathlib.Core.Path.{_≡_, refl, _∙_}
@@ -167,13 +167,9 @@ module _ (P : Plan) where
         (good-then P (good-joined P (productSteps P d β) (P .t) (λ i h. good-product i))
         (good-adds (variables P + 4) (λ j. at β (P .t * variables P + j)) (variables P) (le-refl (variables P + 4)) (omega arith) (λ j. residues-β (P .t * variables P + j))))))
 
--- the step count of a checked plan is small
-pub step-limit : (P : Plan) → Within P → stepCount P ≤ 20000
+-- 2mn + m² is below L², and t(2L + 12) is below 2C + 12t
+pub step-limit : (P : Plan) → Within P → stepCount P ≤ 5000
 unfolding stepCount
 step-limit P within =
-    let m : P .m ≤ 64 = omega (arith, within .variable-limit) in
-    let n : P .n + 2 ≤ 66 = omega (arith, within .variable-limit) in
-    let k : P .m - 1 ≤ 64 = omega arith in
-    let t : P .t ≤ 32 = within .product-limit in
-    let l : 2 * variables P + 12 ≤ 140 = omega (arith, within .variable-limit) in
-    omega (arith, mul-le-mul m n, mul-le-mul m k, mul-le-mul t l, within .variable-limit)
+    let whole : (P .n + P .m) * (P .n + P .m) ≤ 64 * 64 = mul-le-mul (within .variable-limit) (within .variable-limit) in
+    omega (arith, whole, one-less (P .m), within .column-limit, within .product-limit, within .variable-limit)

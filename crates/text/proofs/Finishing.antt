@@ -24,13 +24,12 @@ use Rattle.plan.specs.Numbers.{columns, Within}
 use Rattle.plan.specs.Parts.{lend, storeSize, Lent}
 use Rattle.plan.proofs.Bounds.{prime-low}
 use Rattle.program.specs.Layout.{layout, stepCount}
-use Rattle.program.proofs.Shape.{layout-length}
+use Rattle.program.proofs.Shape.{layout-length, step-limit}
 use Rattle.store.specs.Stages.{Ready}
 use Rattle.store.specs.Elimination.{readOff, cells}
 use Rattle.store.specs.Calls.{coefficients}
 use Rattle.store.proofs.ReadingOff.{solution-residues}
 use Rattle.listing.specs.Printed.{listing, refused}
-use Rattle.listing.proofs.Rooms.{few-steps}
 use Rattle.text.specs.Meaning.{Judged, ended, meaning}
 use Rattle.text.specs.Streaming.{State, start, pushes, finish}
 use Rattle.text.specs.Progress.{judgedOf, Planned, Fits, stated, stateOf, BufferSizes}
@@ -114,7 +113,7 @@ module _ (state : code.State) (line w T d S : List ℕ) where
       (lent (lend P (take a w) (take b T) (take c d)) (at-entries .0), subst (λ (n : ℕ). Ready (P .p) (columns P) (take n S)) (sym h) (at-entries .1))
 
 pub program-room : (P : Plan) (n : ℕ) → Within P → n ≡ stepCount P → (4 * n ≤ 20000) × ((w d β : List ℕ) → length (layout P w d β) ≡ 4 * n)
-program-room P n within e = (omega (arith, few-steps P within), λ w d β. layout-length P w d β ∙ ap (λ (k : ℕ). 4 * k) (sym e))
+program-room P n within e = (omega (arith, step-limit P within), λ w d β. layout-length P w d β ∙ ap (λ (k : ℕ). 4 * k) (sym e))
 
 pub program-fits : (P : Plan) (n : ℕ) {k : ℕ} → Within P → n ≡ stepCount P → 20000 ≤ k → 4 * n ≤ k
 program-fits P n within e h = omega (arith, program-room P n within e .0)

@@ -11,7 +11,8 @@ use Rattle.listing.specs.Decimal.{line}
 use Rattle.listing.specs.Printed.{figureNames, stepNames, stepLine}
 use Rattle.listing.proofs.Puts.{Left, put-as, left-none, left-next}
 use Rattle.listing.proofs.Lines.{three-most, lines-room}
-use Rattle.listing.proofs.Rooms.{few-steps, small-steps, step-count, listing-as}
+use Rattle.program.proofs.Shape.{step-limit}
+use Rattle.listing.proofs.Rooms.{small-steps, step-count, listing-as}
 use borrow.Author.Needs.{needs}
 use Rattle.listing.proofs.printing.print_listing.Statement.{statement}
 use Rattle.listing.proofs.printing.print_listing.Tie as tie
@@ -28,7 +29,7 @@ module _ (c : tie.After-worst) where
   counted = step-count (start c .args .plan) (start c .args .weights .now) (start c .args .d .now) (start c .args .beta .now) steps (start c .pre .1 .1 .1 .1 .0)
 
   few : length steps / 4 ≤ 5000
-  few = rw counted (few-steps (start c .args .plan) (start c .pre .0))
+  few = rw counted (step-limit (start c .args .plan) (start c .pre .0))
 
   small : (i : ℕ) → at steps i < 1000
   small =
