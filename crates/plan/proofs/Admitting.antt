@@ -22,7 +22,7 @@ use Rattle.lists.proofs.Tests.{both-true}
 use Rattle.field.specs.Rows.{allBelow}
 use Rattle.field.proofs.Ranges.{residues-of}
 use Rattle.plan.specs.Causes.{first, gives}
-use Rattle.plan.specs.Numbers.{variables, columns, numberCauses, plan, numbersOf, answerOf, checked, Within}
+use Rattle.plan.specs.Numbers.{variables, columns, product, radicesFit, numberCauses, plan, numbersOf, answerOf, checked, Within}
 use Rattle.plan.specs.Parts.{Given, lend, given, linkStart, lengthsFit, valuesFit, storeSize, ownFits, partCauses, callCauses, checkCauses, admitted, Lent}
 use Rattle.plan.specs.declared.numbers.Plan.{Plan}
 use Rattle.plan.specs.declared.numbers.Checked.the-variants.{Accepted, Refused}
@@ -30,27 +30,31 @@ use Rattle.plan.specs.declared.admission.Own.{Own}
 use Rattle.plan.specs.declared.admission.Own.the-variants.{Nothing}
 use Rattle.plan.proofs.Bounds.{prime-low}
 use Rattle.plan.proofs.Refusals.{orElse, first-append, none-met, answer-refuses, answer-gives, refused-answer, given-answer}
-use Rattle.plan.proofs.Limits.{within-of, numbers-same, refused-number, accepted-plan}
+use Rattle.plan.proofs.Limits.{within-of, radices-of, numbers-same, refused-number, accepted-plan}
 
 pub size-limit : (C : ℕ) → C ≤ 1024 → storeSize C ≤ 1049600
 unfolding storeSize
 size-limit C l = let l′ : C + 1 ≤ 1025 = omega arith in mul-le-mul l l′
 
-pub lent-of : (G : Given) (fits : Bool) → Within (G .numbers) → first (partCauses G fits) ≡ 0 → Lent G × (fits ≡ true)
+pub lent-of : (G : Given) (fits : Bool) → Within (G .numbers) → radicesFit (G .numbers .p) (G .radices) ≡ true → product (G .radices) ≤ 4096
+    → first (partCauses G fits) ≡ 0 → Lent G × (fits ≡ true)
 unfolding lengthsFit valuesFit
-lent-of G fits within h =
+lent-of G fits within fit limit h =
     let P = G .numbers in
+    let R = G .radices in
     let w = G .weights in
     let T = G .tables in
     let d = G .products in
     let none = none-met (partCauses G fits) (omega arith) h in
-    let all = both-true (lengthsFit P w T d) fits (not-false (lengthsFit P w T d && fits) (none .0)) in
+    let count = both-true (eqb (length R) (P .n)) (lengthsFit P w T d && fits) (not-false (eqb (length R) (P .n) && (lengthsFit P w T d && fits)) (none .0)) in
+    let all = both-true (lengthsFit P w T d) fits (count .1) in
     let pos : 0 < P .p = omega (arith, prime-low within) in
     let l1 = both-true (eqb (length w) (linkStart P (P .m))) (eqb (length T) (P .m * P .p) && eqb (length d) (P .t * variables P)) (all .0) in
     let l2 = both-true (eqb (length T) (P .m * P .p)) (eqb (length d) (P .t * variables P)) (l1 .1) in
     let v1 = both-true (allBelow (P .p) w) (allBelow (P .p) T && allBelow (P .p) d) (not-false (valuesFit P w T d) (none .1 .0)) in
     let v2 = both-true (allBelow (P .p) T) (allBelow (P .p) d) (v1 .1) in (
       record {
+        radices = record { count = eqb-true (length R) (P .n) (count .0); fit = fit; limit = limit };
         weights-length = eqb-true (length w) (linkStart P (P .m)) (l1 .0);
         tables-length = eqb-true (length T) (P .m * P .p) (l2 .0);
         products-length = eqb-true (length d) (P .t * variables P) (l2 .1);
@@ -77,7 +81,7 @@ early (suc a) b c k e l = sym e
 
 module _ (G : Given) (own : Own) where
   numbered : List (ℕ × Bool)
-  numbered = numberCauses (G .numbers .p) (G .numbers .s) (G .numbers .n) (G .numbers .m) (G .numbers .t)
+  numbered = numberCauses (G .numbers .p) (G .numbers .s) (G .numbers .n) (G .numbers .m) (G .numbers .t) (G .radices)
 
   parts : List (ℕ × Bool)
   parts = partCauses G (ownFits own (G .numbers))
@@ -98,8 +102,9 @@ module _ (G : Given) (own : Own) where
   unfolding numbered parts
   unrefused rest e =
       let none = none-of (first numbered) (first parts) (first (rest G)) (sym (split rest) ∙ e) in
-      let within = within-of (G .numbers .p) (G .numbers .s) (G .numbers .n) (G .numbers .m) (G .numbers .t) (none .0) in
-      let lent = lent-of G (ownFits own (G .numbers)) within (none .1) in
+      let within = within-of (G .numbers .p) (G .numbers .s) (G .numbers .n) (G .numbers .m) (G .numbers .t) (G .radices) (none .0) in
+      let fit = radices-of (G .numbers .p) (G .numbers .s) (G .numbers .n) (G .numbers .m) (G .numbers .t) (G .radices) (none .0) in
+      let lent = lent-of G (ownFits own (G .numbers)) within (fit .0) (fit .1) (none .1) in
       record { within = within; lent = lent .0; own-fits = lent .1; rest-none = none .2 }
 
   pub turned-away : {k : ℕ} → admitted G own ≡ answerOf (Refused k) → (rest : Given → List (ℕ × Bool)) → (k ≡ first (callCauses G own rest)) × (0 < k)
@@ -112,9 +117,9 @@ module _ (G : Given) (own : Own) where
   pub record Admitted (Q : Plan) : Type 1 where
     pub same : G .numbers ≡ Q
     pub within : Within Q
-    pub lent : Lent (lend Q (G .weights) (G .tables) (G .products))
+    pub lent : Lent (lend Q (G .radices) (G .weights) (G .tables) (G .products))
     pub own-fits : ownFits own Q ≡ true
-    pub rest : (causes : Given → List (ℕ × Bool)) → first (callCauses G own causes) ≡ first (causes (lend Q (G .weights) (G .tables) (G .products)))
+    pub rest : (causes : Given → List (ℕ × Bool)) → first (callCauses G own causes) ≡ first (causes (lend Q (G .radices) (G .weights) (G .tables) (G .products)))
 
   pub admission : {Q : Plan} → admitted G own ≡ answerOf (Accepted Q) → Admitted Q
   unfolding admitted answerOf
@@ -140,34 +145,34 @@ accepted-call G accepted own rest e =
     ∙ only-last (first (numbered G own)) (first (parts G own)) (first (rest G)) (none .0) (ap (λ (b : Bool). first (partCauses G b)) e ∙ none .1)
 
 -- what `admit` answers, by the constructor's answer and the parts' refusal
-module _ (p s n m t : ℕ) (w T d : List ℕ) (own : Own) where
-  refusal-is : (a b k : ℕ) → first (numberCauses p s n m t) ≡ a → first (partCauses (given p s n m t w T d) (ownFits own (plan p s n m t))) ≡ b
-      → orElse a (orElse b 0) ≡ k → first (callCauses (given p s n m t w T d) own (λ _. [])) ≡ k
+module _ (p s n m t : ℕ) (R w T d : List ℕ) (own : Own) where
+  refusal-is : (a b k : ℕ) → first (numberCauses p s n m t R) ≡ a → first (partCauses (given p s n m t R w T d) (ownFits own (plan p s n m t))) ≡ b
+      → orElse a (orElse b 0) ≡ k → first (callCauses (given p s n m t R w T d) own (λ _. [])) ≡ k
   unfolding numbered parts
-  refusal-is a b k ha hb e = split (given p s n m t w T d) own (λ _. []) ∙ ap₂ (λ (i j : ℕ). orElse i (orElse j 0)) ha hb ∙ e
+  refusal-is a b k ha hb e = split (given p s n m t R w T d) own (λ _. []) ∙ ap₂ (λ (i j : ℕ). orElse i (orElse j 0)) ha hb ∙ e
 
   -- k is not 0
   whole : (k j : ℕ) → 0 < k → orElse k j ≡ k
   whole zero j l = absurd (omega arith)
   whole (suc k) j l = refl
 
-  pub admit-numbers : (k : ℕ) → checked p s n m t ≡ answerOf (Refused k) → answerOf (Refused k) ≡ admitted (given p s n m t w T d) own
+  pub admit-numbers : (k : ℕ) → checked p s n m t R ≡ answerOf (Refused k) → answerOf (Refused k) ≡ admitted (given p s n m t R w T d) own
   unfolding admitted answerOf
   admit-numbers k e =
-      let r = refused-number p s n m t k e in
+      let r = refused-number p s n m t R k e in
       refused-answer k _ (numbersOf (plan p s n m t)) (sym (refusal-is k _ k (r .0) refl (whole k _ (r .1)))) (r .1)
 
-  module _ (Q : Plan) (e : checked p s n m t ≡ answerOf (Accepted Q)) where
-    over : (k : ℕ) → k ≡ first (partCauses (lend Q w T d) (ownFits own Q)) → first (callCauses (given p s n m t w T d) own (λ _. [])) ≡ orElse k 0
+  module _ (Q : Plan) (e : checked p s n m t R ≡ answerOf (Accepted Q)) where
+    over : (k : ℕ) → k ≡ first (partCauses (lend Q R w T d) (ownFits own Q)) → first (callCauses (given p s n m t R w T d) own (λ _. [])) ≡ orElse k 0
     over k h =
-        let a = accepted-plan p s n m t e in
-        refusal-is 0 k (orElse k 0) (a .0) (ap (λ (P : Plan). first (partCauses (lend P w T d) (ownFits own P))) (a .1) ∙ sym h) refl
+        let a = accepted-plan p s n m t R e in
+        refusal-is 0 k (orElse k 0) (a .0) (ap (λ (P : Plan). first (partCauses (lend P R w T d) (ownFits own P))) (a .1) ∙ sym h) refl
 
-    pub admit-parts : (k : ℕ) → k ≡ first (partCauses (lend Q w T d) (ownFits own Q)) → 0 < k → answerOf (Refused k) ≡ admitted (given p s n m t w T d) own
+    pub admit-parts : (k : ℕ) → k ≡ first (partCauses (lend Q R w T d) (ownFits own Q)) → 0 < k → answerOf (Refused k) ≡ admitted (given p s n m t R w T d) own
     unfolding admitted answerOf
     admit-parts k h l = refused-answer k _ (numbersOf (plan p s n m t)) (sym (over k h ∙ whole k 0 l)) l
 
-    pub admit-passed : 0 ≡ first (partCauses (lend Q w T d) (ownFits own Q)) → answerOf (Accepted Q) ≡ admitted (given p s n m t w T d) own
+    pub admit-passed : 0 ≡ first (partCauses (lend Q R w T d) (ownFits own Q)) → answerOf (Accepted Q) ≡ admitted (given p s n m t R w T d) own
     unfolding admitted answerOf
     admit-passed h =
-        ap (λ (P : Plan). gives (numbersOf P)) (sym (accepted-plan p s n m t e .1)) ∙ given-answer _ (numbersOf (plan p s n m t)) (over 0 h)
+        ap (λ (P : Plan). gives (numbersOf P)) (sym (accepted-plan p s n m t R e .1)) ∙ given-answer _ (numbersOf (plan p s n m t)) (over 0 h)

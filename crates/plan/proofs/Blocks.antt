@@ -26,7 +26,7 @@ use Rattle.field.specs.Rows.{dot, multiple}
 use Rattle.field.proofs.Modular.{mul-mod-l}
 use Rattle.field.proofs.Ranges.{residues-tab}
 use Rattle.plan.specs.Numbers.{variables, columns, Within}
-use Rattle.plan.specs.Parts.{Given}
+use Rattle.plan.specs.Parts.{Given, Lent}
 use Rattle.plan.specs.Rows.{values, weighted, rowPlace, row}
 use Rattle.plan.specs.declared.numbers.Plan.{Plan}
 use Rattle.plan.proofs.Bounds.{prime-low}
@@ -64,9 +64,9 @@ pub row-length : (G : Given) (i : ℕ) → length (row G i) ≡ columns (G .numb
 unfolding row
 row-length G i = tab-length (columns (G .numbers)) (rowPlace (G .numbers) (G .products) (values G i))
 
-pub row-residues : (G : Given) (i : ℕ) → Within (G .numbers) → Residues (G .numbers .p) (G .tables) → Residues (G .numbers .p) (row G i)
+pub row-residues : (G : Given) (i : ℕ) → Within (G .numbers) → Lent G → Residues (G .numbers .p) (row G i)
 unfolding row rowPlace
-row-residues G i within tables =
+row-residues G i within lent =
     residues-tab (P .p) (columns P) (rowPlace P (G .products) xs) positive (λ c l. place c)
   where
     P : Plan
@@ -85,7 +85,7 @@ row-residues G i within tables =
     place : (c : ℕ) → rowPlace P (G .products) xs c < P .p
     place c =
         either (ltb (c / variables P) (P .t)) (at xs (c % variables P) * weighted P (G .products) xs (c / variables P) % P .p) (at xs (c % variables P))
-        (mod-lt _ positive) (values-residues G i within tables (c % variables P))
+        (mod-lt _ positive) (values-residues G i within lent (c % variables P))
 
 columns-split : (P : Plan) → columns P ≡ P .t * variables P + variables P
 columns-split P = omega arith

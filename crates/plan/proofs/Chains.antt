@@ -21,19 +21,19 @@ use Rattle.field.specs.Residues.{Residues}
 use Rattle.field.specs.Rows.{dot}
 use Rattle.field.proofs.Ranges.{residues-tab, residues-snoc}
 use Rattle.plan.specs.Numbers.{variables, Within}
-use Rattle.plan.specs.Parts.{Given, linkStart}
+use Rattle.plan.specs.Parts.{Given, Lent, linkStart}
 use Rattle.plan.specs.Rows.{digit, digits, link, chain, values}
 use Rattle.plan.specs.declared.numbers.Plan.{Plan}
 use Rattle.plan.proofs.Bounds.{prime-low}
-use Rattle.plan.proofs.Digits.{digit-below}
+use Rattle.plan.proofs.Digits.{digit-residue}
 
 pub chain-length : (G : Given) (i k : ℕ) → length (chain G i k) ≡ G .numbers .n + k
 unfolding chain
-chain-length G i zero = tab-length (G .numbers .n) (digit (G .numbers) i) ∙ sym (add-zero (G .numbers .n))
+chain-length G i zero = tab-length (G .numbers .n) (digit (G .radices) i) ∙ sym (add-zero (G .numbers .n))
 chain-length G i (suc k) =
     length-append (chain G i k) (link (G .numbers) (G .weights) (G .tables) (chain G i k) k ∷ []) ∙ omega (arith, chain-length G i k)
 
-module _ (G : Given) (i : ℕ) (within : Within (G .numbers)) (tables : Residues (G .numbers .p) (G .tables)) where
+module _ (G : Given) (i : ℕ) (within : Within (G .numbers)) (lent : Lent G) where
   positive : 0 < G .numbers .p
   positive = omega (arith, prime-low within)
 
@@ -41,13 +41,13 @@ module _ (G : Given) (i : ℕ) (within : Within (G .numbers)) (tables : Residues
   unfolding link
   link-residue xs k =
       let P = G .numbers in
-      tables (k * P .p + sum (λ j. at (G .weights) (linkStart P k + j) * at xs j) (P .n + k) % P .p)
+      lent .tables-residues (k * P .p + sum (λ j. at (G .weights) (linkStart P k + j) * at xs j) (P .n + k) % P .p)
 
   pub chain-residues : (k : ℕ) → Residues (G .numbers .p) (chain G i k)
   unfolding chain
   chain-residues zero =
-      residues-tab (G .numbers .p) (G .numbers .n) (digit (G .numbers) i) positive
-      (λ j l. omega (arith, digit-below (G .numbers) i j within, within .radix-high))
+      residues-tab (G .numbers .p) (G .numbers .n) (digit (G .radices) i) positive
+      (λ j l. digit-residue (G .numbers) (G .radices) i j (lent .radices) l)
   chain-residues (suc k) =
       residues-snoc (G .numbers .p) (chain G i k) (link (G .numbers) (G .weights) (G .tables) (chain G i k) k) positive
       (link-residue (chain G i k) k) (chain-residues k)
@@ -104,7 +104,7 @@ linked-none G i xs e hd he =
     }
   where
     count : length xs ≡ G .numbers .n
-    count = ap length hd ∙ tab-length (G .numbers .n) (digit (G .numbers) i)
+    count = ap length hd ∙ tab-length (G .numbers .n) (digit (G .radices) i)
 
 pub linked-next : {G : Given} {i k begin : ℕ} {x : List ℕ} (v : ℕ) → Linked G i k begin x → k < G .numbers .m
     → v ≡ link (G .numbers) (G .weights) (G .tables) (chain G i k) k

@@ -1,6 +1,7 @@
 -- The theory of `plan`: it knows the definitions of specs/ and no code.
 pub mod Bounds
 pub mod Refusals
+pub mod Radix
 pub mod Limits
 pub mod Admitting
 pub mod Digits

@@ -1,17 +1,18 @@
--- 01, "The plan": a plan as it is lent, its five numbers and the parts that it carries, one flat slice each; and causes 4 and 5.
--- "link weights: link k (from 0) has n+k weights, links in order; link tables: p values each, for the sums 0 to p−1 in order; product
--- weights d: t rows of L. All are residues 0 to p−1, one byte each." Stands on `Numbers`, and on `field` for rows of residues.
---     Given                       a plan as lent; `lend P w T d`: of these numbers and parts, `given p s n m t w T d`: of these five numbers
+-- 01, "The plan", and 02, C-11: a plan as it is lent, its five numbers and the parts that it carries, one flat slice each; and causes 4
+-- and 5. First "a line of n radices". Then "link weights: link k (from 0) has n+k weights, links in order; link tables: p values each, for the
+-- sums 0 to p−1 in order; product weights d: t rows of L. All are residues 0 to p−1, one byte each." Stands on `Numbers`, and on `field` for
+-- rows of residues.
+--     Given                       a plan as lent; `lend P R w T d`: of these numbers and parts, `given p s n m t R w T d`: of these five numbers
 --     linkStart P k               where link k's weights begin: after the n + i weights of each link i before it
 --     lengthsFit P w T d          each part has the length that the plan says, as a test
 --     valuesFit P w T d           each weight and table value is below p, as a test
 --     storeSize C                 the bytes of a store, "C rows of C+1 bytes"
 --     ownFits own P               the call's own parts have the lengths that the plan says: a row or β has C places, digits are n
---     partCauses G fits           causes 4 and 5; fits says whether the call's own parts have their lengths
+--     partCauses G fits           causes 4 ("cause 4 their number", of the radices) and 5; fits says whether the call's own parts have their lengths
 --     callCauses G own rest       all causes of a call that is lent a plan: 1 to 3, 4 and 5, then the rest, the call's own
 --     checkCauses G               the causes of the call `check`, which has none of its own: 1 2 3 4 5
 --     admitted G own              what every call goes on with: the plan's numbers, or the first of causes 1 to 5
---     Lent G                      the parts meet neither of causes 4 and 5
+--     Lent G                      the parts meet neither of causes 4 and 5, nor the radices causes 2 and 3
 use mathlib.Core.Path.{_≡_}
 use mathlib.Core.Bool.{Bool, true, not, _&&_}
 use mathlib.Core.List.{List, [], _∷_, _++_}
@@ -22,22 +23,23 @@ use Rattle.lists.specs.Places.{sum}
 use Rattle.field.specs.Residues.{Residues}
 use Rattle.field.specs.Rows.{allBelow}
 use Rattle.plan.specs.Causes.{first, Answer, answer}
-use Rattle.plan.specs.Numbers.{variables, columns, numberCauses, plan, numbersOf}
+use Rattle.plan.specs.Numbers.{variables, columns, numberCauses, plan, numbersOf, Radices}
 use Rattle.plan.specs.declared.numbers.Plan.{Plan}
 use Rattle.plan.specs.declared.admission.Own.{Own}
 use Rattle.plan.specs.declared.admission.Own.the-variants.{Nothing, Row, Store, StoreAndRow, Digits}
 
 pub record Given : Type 0 where
   pub numbers : Plan
+  pub radices : List ℕ
   pub weights : List ℕ
   pub tables : List ℕ
   pub products : List ℕ
 
-abbrev pub lend : Plan → List ℕ → List ℕ → List ℕ → Given
-lend P w T d = record { numbers = P; weights = w; tables = T; products = d }
+abbrev pub lend : Plan → List ℕ → List ℕ → List ℕ → List ℕ → Given
+lend P R w T d = record { numbers = P; radices = R; weights = w; tables = T; products = d }
 
-abbrev pub given : ℕ → ℕ → ℕ → ℕ → ℕ → List ℕ → List ℕ → List ℕ → Given
-given p s n m t w T d = lend (plan p s n m t) w T d
+abbrev pub given : ℕ → ℕ → ℕ → ℕ → ℕ → List ℕ → List ℕ → List ℕ → List ℕ → Given
+given p s n m t R w T d = lend (plan p s n m t) R w T d
 
 abbrev pub linkStart : Plan → ℕ → ℕ
 linkStart P k = sum (λ i. P .n + i) k
@@ -62,14 +64,14 @@ ownFits (Digits k) P = eqb k (P .n)
 
 abbrev pub partCauses : Given → Bool → List (ℕ × Bool)
 partCauses G fits =
-    (4, not (lengthsFit (G .numbers) (G .weights) (G .tables) (G .products) && fits))
+    (4, not (eqb (length (G .radices)) (G .numbers .n) && (lengthsFit (G .numbers) (G .weights) (G .tables) (G .products) && fits)))
     ∷ (5, not (valuesFit (G .numbers) (G .weights) (G .tables) (G .products)))
     ∷ []
 
 unfoldable pub callCauses : Given → Own → (Given → List (ℕ × Bool)) → List (ℕ × Bool)
 callCauses G own rest =
     let P = G .numbers in
-    numberCauses (P .p) (P .s) (P .n) (P .m) (P .t) ++ (partCauses G (ownFits own P) ++ rest G)
+    numberCauses (P .p) (P .s) (P .n) (P .m) (P .t) (G .radices) ++ (partCauses G (ownFits own P) ++ rest G)
 
 abbrev pub checkCauses : Given → List (ℕ × Bool)
 checkCauses G = callCauses G Nothing (λ _. [])
@@ -78,6 +80,7 @@ unfoldable pub admitted : Given → Own → Answer
 admitted G own = answer (first (callCauses G own (λ _. []))) (numbersOf (G .numbers))
 
 pub record Lent (G : Given) : Type 0 where
+  pub radices : Radices (G .numbers) (G .radices)
   pub weights-length : length (G .weights) ≡ linkStart (G .numbers) (G .numbers .m)
   pub tables-length : length (G .tables) ≡ G .numbers .m * G .numbers .p
   pub products-length : length (G .products) ≡ G .numbers .t * variables (G .numbers)

@@ -51,17 +51,18 @@ pub fn admit(
     n: usize,
     m: usize,
     t: usize,
+    radices: &[u8],
     weights: &[u8],
     tables: &[u8],
     d: &[u8],
     own: Own,
 ) -> Checked
-    ensures { λ r. ⌜ answerOf r ≡ specs.admitted (specs.given p s n m t (now (weights .entry)) (now (tables .entry)) (now (d .entry))) own ⌝ }
+    ensures { λ r. ⌜ answerOf r ≡ specs.admitted (specs.given p s n m t (now (radices .entry)) (now (weights .entry)) (now (tables .entry)) (now (d .entry))) own ⌝ }
 {
-    match Plan::new(p, s, n, m, t) {
+    match Plan::new(p, s, n, m, t, radices) {
         Checked::Refused(k) => Checked::Refused(k),
         Checked::Accepted(plan) => {
-            let k = part_refusal(plan, weights, tables, d, own_fits(own, plan));
+            let k = part_refusal(plan, radices, weights, tables, d, own_fits(own, plan));
             if k != 0 {
                 return Checked::Refused(k);
             }

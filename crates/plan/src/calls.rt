@@ -15,13 +15,14 @@ pub fn check(
     n: usize,
     m: usize,
     t: usize,
+    radices: &[u8],
     weights: &[u8],
     tables: &[u8],
     d: &[u8],
 ) -> u8
-    ensures { λ r. ⌜ r ≡ first (checkCauses (given p s n m t (now (weights .entry)) (now (tables .entry)) (now (d .entry)))) ⌝ }
+    ensures { λ r. ⌜ r ≡ first (checkCauses (given p s n m t (now (radices .entry)) (now (weights .entry)) (now (tables .entry)) (now (d .entry)))) ⌝ }
 {
-    match admit(p, s, n, m, t, weights, tables, d, Own::Nothing) {
+    match admit(p, s, n, m, t, radices, weights, tables, d, Own::Nothing) {
         Checked::Refused(k) => k,
         Checked::Accepted(_) => 0,
     }
@@ -34,22 +35,34 @@ pub fn row(
     n: usize,
     m: usize,
     t: usize,
+    radices: &[u8],
     weights: &[u8],
     tables: &[u8],
     d: &[u8],
     entry: usize,
     row: &mut [u8],
 ) -> u8
-    ensures { λ r. ⌜ r ≡ first (specs.rowCauses (given p s n m t (now (weights .entry)) (now (tables .entry)) (now (d .entry))) entry (now (row .entry))) ⌝ }
-    ensures { λ r. ⌜ now (row .exit) ≡ result r (specs.row (given p s n m t (now (weights .entry)) (now (tables .entry)) (now (d .entry))) entry) (now (row .entry)) ⌝ }
+    ensures { λ r. ⌜ r ≡ first (specs.rowCauses (given p s n m t (now (radices .entry)) (now (weights .entry)) (now (tables .entry)) (now (d .entry))) entry (now (row .entry))) ⌝ }
+    ensures { λ r. ⌜ now (row .exit) ≡ result r (specs.row (given p s n m t (now (radices .entry)) (now (weights .entry)) (now (tables .entry)) (now (d .entry))) entry) (now (row .entry)) ⌝ }
 {
-    match admit(p, s, n, m, t, weights, tables, d, Own::Row(row.len())) {
+    match admit(
+        p,
+        s,
+        n,
+        m,
+        t,
+        radices,
+        weights,
+        tables,
+        d,
+        Own::Row(row.len()),
+    ) {
         Checked::Refused(k) => k,
         Checked::Accepted(plan) => {
-            if plan.entries() <= entry {
+            if plan.entries(radices) <= entry {
                 return 7;
             }
-            fill_row(plan, weights, tables, d, entry, row);
+            fill_row(plan, radices, weights, tables, d, entry, row);
             0
         }
     }

@@ -1,9 +1,11 @@
 // The numbers of a plan and their limits, which stand here once.
 ghost use mathlib.Core.Path.{_≡_};
-ghost use Prim.Native.Nat.{_≤_, _^_, min};
 ghost use Rattle.plan.specs.Numbers as specs;
+use crate::radices::product;
+use crate::radices::radices_fit;
 
-// The numbers of a plan that meets none of causes 1 to 3: the prime, the radix, the digits, the links and the products.
+// The numbers of a plan that meets none of causes 1 to 3: the prime, the bound of table values, the digits, the links and the products.
+// The radices stay with the caller, like the other parts.
 pub struct Plan {
     pub p: u8,
     pub s: u8,
@@ -18,25 +20,8 @@ pub enum Checked {
     Refused(u8),
 }
 
-// s to the power n, or 4,097 where that is above 4,096: the loop stops as soon as it passes the limit.
-fn power(s: usize, n: usize) -> usize
-    requires { ⌜ (2 ≤ s) × (s ≤ 251) ⌝ }
-    ensures { λ r. ⌜ r ≡ min (s ^ n) 4097 ⌝ }
-{
-    let mut r: usize = 1;
-    let mut i: usize = 0;
-    while i < n {
-        r = r * s;
-        if Plan::ENTRIES < r {
-            return Plan::ENTRIES + 1;
-        }
-        i += 1;
-    }
-    r
-}
-
 impl Plan {
-    // s^n at most
+    // entries, the product of the radices, at most
     pub const ENTRIES: usize = 4096;
     // L at most
     pub const VARIABLES: usize = 64;
@@ -46,8 +31,8 @@ impl Plan {
     pub const COLUMNS: usize = 1024;
 
     // Causes 1 to 3, in that order. No number is too large to ask: each sum and product is made only where it fits.
-    pub fn new(p: usize, s: usize, n: usize, m: usize, t: usize) -> Checked
-        ensures { λ r. ⌜ specs.answerOf r ≡ specs.checked p s n m t ⌝ }
+    pub fn new(p: usize, s: usize, n: usize, m: usize, t: usize, radices: &[u8]) -> Checked
+        ensures { λ r. ⌜ specs.answerOf r ≡ specs.checked p s n m t (now (radices .entry)) ⌝ }
     {
         if !field::is_odd_prime(p) {
             return Checked::Refused(1);
@@ -56,6 +41,9 @@ impl Plan {
             return Checked::Refused(2);
         }
         if p < s {
+            return Checked::Refused(2);
+        }
+        if !radices_fit(radices, p as u8) {
             return Checked::Refused(2);
         }
         if n < 1 {
@@ -73,7 +61,7 @@ impl Plan {
         if Plan::COLUMNS < (t + 1) * (n + m) {
             return Checked::Refused(3);
         }
-        if Plan::ENTRIES < power(s, n) {
+        if Plan::ENTRIES < product(radices) {
             return Checked::Refused(3);
         }
         Checked::Accepted(Plan {
@@ -101,11 +89,11 @@ impl Plan {
         (self.t + 1) * (self.n + self.m)
     }
 
-    // s^n
-    pub fn entries(self) -> usize
-        requires { ⌜ specs.Within self ⌝ }
-        ensures { λ r. ⌜ r ≡ specs.entries self ⌝ }
+    // The number of entries.
+    pub fn entries(self, radices: &[u8]) -> usize
+        requires { ⌜ specs.Radices self (now radices) ⌝ }
+        ensures { λ r. ⌜ r ≡ specs.product (now (radices .entry)) ⌝ }
     {
-        power(self.s as usize, self.n)
+        product(radices)
     }
 }

@@ -38,10 +38,20 @@ fn values_fit(plan: Plan, weights: &[u8], tables: &[u8], d: &[u8]) -> bool
 
 // 4 where a part, or the call's own part, has another length than the plan says; 5 where a weight or table value is not below p;
 // else 0. `own` says whether the call's own part has its length.
-pub fn part_refusal(plan: Plan, weights: &[u8], tables: &[u8], d: &[u8], own: bool) -> u8
+pub fn part_refusal(
+    plan: Plan,
+    radices: &[u8],
+    weights: &[u8],
+    tables: &[u8],
+    d: &[u8],
+    own: bool,
+) -> u8
     requires { ⌜ Within plan ⌝ }
-    ensures { λ r. ⌜ r ≡ first (specs.partCauses (specs.lend plan (now (weights .entry)) (now (tables .entry)) (now (d .entry))) own) ⌝ }
+    ensures { λ r. ⌜ r ≡ first (specs.partCauses (specs.lend plan (now (radices .entry)) (now (weights .entry)) (now (tables .entry)) (now (d .entry))) own) ⌝ }
 {
+    if radices.len() != plan.n {
+        return 4;
+    }
     if !lengths_fit(plan, weights, tables, d) {
         return 4;
     }

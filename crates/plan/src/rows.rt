@@ -5,23 +5,23 @@ ghost use lib.ListN.{length};
 ghost use Rattle.lists.specs.Places.{tab, at};
 ghost use Rattle.field.specs.Residues.{Modulus, Residues};
 ghost use Rattle.field.specs.Rows.{dot};
-ghost use Rattle.plan.specs.Numbers.{Within, variables, columns};
+ghost use Rattle.plan.specs.Numbers.{Within, Radices, variables, columns};
 ghost use Rattle.plan.specs.Parts.{Lent, lend};
 ghost use Rattle.plan.specs.Rows as specs;
 use crate::numbers::Plan;
 
-// The digits of an entry, the most significant first: q is the weight of the digit before.
-fn fill_digits(plan: Plan, entry: usize, x: &mut [u8])
-    requires { ⌜ Within plan ⌝ }
+// The digits of an entry, the most significant first: q is the product of the radices from the digit on.
+fn fill_digits(plan: Plan, radices: &[u8], entry: usize, x: &mut [u8])
+    requires { ⌜ Radices plan (now radices) ⌝ }
     requires { ⌜ length (now x) ≡ plan .n ⌝ }
-    ensures { λ _. ⌜ now (x .exit) ≡ tab (plan .n) (specs.digit plan entry) ⌝ }
+    ensures { λ _. ⌜ now (x .exit) ≡ tab (plan .n) (specs.digit (now (radices .entry)) entry) ⌝ }
 {
-    let s = plan.s as usize;
-    let mut q = plan.entries();
+    let mut q = plan.entries(radices);
     let mut j = 0;
     while j < plan.n {
-        q = q / s;
-        x[j] = (entry / q % s) as u8;
+        let r = radices[j] as usize;
+        q = q / r;
+        x[j] = (entry / q % r) as u8;
         j += 1;
     }
 }
@@ -38,16 +38,24 @@ fn link(weights: &[u8], table: &[u8], x: &[u8], p: u8) -> u8
 }
 
 // The L variables of an entry: its digits, then link after link. `begin` is where link k's weights begin.
-fn fill_variables(plan: Plan, weights: &[u8], tables: &[u8], d: &[u8], entry: usize, x: &mut [u8])
+fn fill_variables(
+    plan: Plan,
+    radices: &[u8],
+    weights: &[u8],
+    tables: &[u8],
+    d: &[u8],
+    entry: usize,
+    x: &mut [u8],
+)
     requires { ⌜ Within plan ⌝ }
-    requires { ⌜ Lent (lend plan (now weights) (now tables) (now d)) ⌝ }
+    requires { ⌜ Lent (lend plan (now radices) (now weights) (now tables) (now d)) ⌝ }
     requires { ⌜ length (now x) ≡ variables plan ⌝ }
-    ensures { λ _. ⌜ now (x .exit) ≡ specs.values (lend plan (now (weights .entry)) (now (tables .entry)) (now (d .entry))) entry ⌝ }
+    ensures { λ _. ⌜ now (x .exit) ≡ specs.values (lend plan (now (radices .entry)) (now (weights .entry)) (now (tables .entry)) (now (d .entry))) entry ⌝ }
 {
     let n = plan.n;
     let p = plan.p;
     let size = p as usize;
-    fill_digits(plan, entry, &mut x[..n]);
+    fill_digits(plan, radices, entry, &mut x[..n]);
     let mut begin: usize = 0;
     let mut k: usize = 0;
     while k < plan.m {
@@ -91,14 +99,22 @@ fn fill_blocks(plan: Plan, d: &[u8], x: &[u8], row: &mut [u8])
 }
 
 // Row `entry` of a checked plan with its parts as lent.
-pub fn fill_row(plan: Plan, weights: &[u8], tables: &[u8], d: &[u8], entry: usize, row: &mut [u8])
+pub fn fill_row(
+    plan: Plan,
+    radices: &[u8],
+    weights: &[u8],
+    tables: &[u8],
+    d: &[u8],
+    entry: usize,
+    row: &mut [u8],
+)
     requires { ⌜ Within plan ⌝ }
-    requires { ⌜ Lent (lend plan (now weights) (now tables) (now d)) ⌝ }
+    requires { ⌜ Lent (lend plan (now radices) (now weights) (now tables) (now d)) ⌝ }
     requires { ⌜ length (now row) ≡ columns plan ⌝ }
-    ensures { λ _. ⌜ now (row .exit) ≡ specs.row (lend plan (now (weights .entry)) (now (tables .entry)) (now (d .entry))) entry ⌝ }
+    ensures { λ _. ⌜ now (row .exit) ≡ specs.row (lend plan (now (radices .entry)) (now (weights .entry)) (now (tables .entry)) (now (d .entry))) entry ⌝ }
 {
     let mut x = [0u8; Plan::VARIABLES];
     let l = plan.variables();
-    fill_variables(plan, weights, tables, d, entry, &mut x[..l]);
+    fill_variables(plan, radices, weights, tables, d, entry, &mut x[..l]);
     fill_blocks(plan, d, &x[..l], row);
 }

@@ -13,21 +13,21 @@ use Rattle.plan.proofs.admission.admit.Statement.{statement}
 use Rattle.plan.proofs.admission.admit.Tie as tie
 
 abbrev start : tie.After-new → tie.Start
-start c = c .before .before .before .before
+start c = c .before .before .before .before .before
 
-accepted : (c : tie.After-plan) → let a = start (c .before .before) .args in checked (a .p) (a .s) (a .n) (a .m) (a .t) ≡ answerOf (Accepted (c .plan .given .0 .0))
+accepted : (c : tie.After-plan) → let a = start (c .before .before) .args in checked (a .p) (a .s) (a .n) (a .m) (a .t) (a .radices .now) ≡ answerOf (Accepted (c .plan .given .0 .0))
 accepted c = sym (c .before .before .new .ensures) ∙ ap answerOf (c .plan .given .1)
 
 -- the parts' refusal, with the call's own parts against the plan
 parts : (c : tie.After-part-refusal) →
     let a = start (c .before .before .before .before .before) .args in
     let Q = c .before .before .before .plan .given .0 .0 in
-    c .part-refusal .result ≡ first (partCauses (lend Q (a .weights .now) (a .tables .now) (a .d .now)) (ownFits (a .own) Q))
+    c .part-refusal .result ≡ first (partCauses (lend Q (a .radices .now) (a .weights .now) (a .tables .now) (a .d .now)) (ownFits (a .own) Q))
 parts c =
     let a = start (c .before .before .before .before .before) .args in
     let Q = c .before .before .before .plan .given .0 .0 in
     c .part-refusal .ensures
-    ∙ ap (λ (b : Bool). first (partCauses (lend Q (a .weights .now) (a .tables .now) (a .d .now)) b)) (c .before .own-fits .ensures)
+    ∙ ap (λ (b : Bool). first (partCauses (lend Q (a .radices .now) (a .weights .now) (a .tables .now) (a .d .now)) b)) (c .before .own-fits .ensures)
 
 new-requires : tie.Need-new-requires
 new-requires c κs = search needs
@@ -39,19 +39,19 @@ enum-known-plan : tie.Need-enum-known-plan
 enum-known-plan c = search needs
 
 own-fits-requires : tie.Need-own-fits-requires
-own-fits-requires c κs = accepted-within _ _ _ _ _ (accepted (c .before))
+own-fits-requires c κs = accepted-within _ _ _ _ _ _ (accepted (c .before))
 
 part-refusal-requires : tie.Need-part-refusal-requires
-part-refusal-requires c κs = accepted-within _ _ _ _ _ (accepted (c .before .before))
+part-refusal-requires c κs = accepted-within _ _ _ _ _ _ (accepted (c .before .before))
 
 returns : tie.Need-returns
-returns c = admit-parts _ _ _ _ _ _ _ _ _ _ (accepted (c .before .before .before .before)) _ (parts (c .before)) (pos-of-ne-zero (c .if1 .taken))
+returns c = admit-parts _ _ _ _ _ _ _ _ _ _ _ (accepted (c .before .before .before .before)) _ (parts (c .before)) (pos-of-ne-zero (c .if1 .taken))
 
 returns-2 : tie.Need-returns-2
-returns-2 c = admit-numbers _ _ _ _ _ _ _ _ _ _ (sym (c .before .before .before .new .ensures) ∙ ap answerOf (c .before .k .given .1))
+returns-2 c = admit-numbers _ _ _ _ _ _ _ _ _ _ _ (sym (c .before .before .before .new .ensures) ∙ ap answerOf (c .before .k .given .1))
 
 returns-3 : tie.Need-returns-3
-returns-3 c = admit-passed _ _ _ _ _ _ _ _ _ _ (accepted (c .before .before .before .before)) (sym (c .if1 .left) ∙ parts (c .before))
+returns-3 c = admit-passed _ _ _ _ _ _ _ _ _ _ _ (accepted (c .before .before .before .before)) (sym (c .if1 .left) ∙ parts (c .before))
 
 pub admit-spec : {M : Type 1} → statement M
 admit-spec =

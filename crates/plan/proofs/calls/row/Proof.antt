@@ -5,7 +5,7 @@ use Prim.Native.Nat.{_≤_, _<_}
 use native.Mathlib.Omega.{arith}
 use borrow.Author.Tests.{le-ltb, lt-ltb, eqb-true}
 use lib.ListN.{length}
-use Rattle.plan.specs.Numbers.{entries, answerOf}
+use Rattle.plan.specs.Numbers.{product, answerOf}
 use Rattle.plan.specs.Parts.{given, lend}
 use Rattle.plan.specs.Rows.{row}
 use Rattle.plan.specs.declared.numbers.Plan.{Plan}
@@ -17,12 +17,12 @@ use Rattle.plan.proofs.calls.row.Statement.{statement}
 use Rattle.plan.proofs.calls.row.Tie as tie
 
 abbrev start : tie.After-plan → tie.Start
-start c = c .before .before .before .before .before .before .before
+start c = c .before .before .before .before .before .before .before .before
 
 -- the call is admitted with that plan
 admitted : (c : tie.After-plan) →
     let a = start c .args in
-    Admitted (given (a .p) (a .s) (a .n) (a .m) (a .t) (a .weights .now) (a .tables .now) (a .d .now)) (Row (length (a .row .now))) (c .plan .given .0 .0)
+    Admitted (given (a .p) (a .s) (a .n) (a .m) (a .t) (a .radices .now) (a .weights .now) (a .tables .now) (a .d .now)) (Row (length (a .row .now))) (c .plan .given .0 .0)
 admitted c = admission _ _ (sym (c .before .before .admit .ensures) ∙ ap answerOf (c .plan .given .1))
 
 admit-requires : tie.Need-admit-requires
@@ -35,13 +35,13 @@ enum-known-plan : tie.Need-enum-known-plan
 enum-known-plan c = search needs
 
 entries-requires : tie.Need-entries-requires
-entries-requires c κs = admitted (c .before) .within
+entries-requires c κs = admitted (c .before) .lent .radices
 
 returns : tie.Need-returns
 returns c =
     let r = c .before .before .before in
     let a = admitted r in
-    let far : entries (r .plan .given .0 .0) ≤ start r .args .entry = omega (arith, c .before .entries .ensures, c .if1 .taken) in
+    let far : product (start r .args .radices .now) ≤ start r .args .entry = omega (arith, c .before .entries .ensures, c .if1 .taken) in
     (sym (a .rest _ ∙ rw (le-ltb _ _ far)), refl)
 
 fill-row-requires : tie.Need-fill-row-requires
@@ -63,9 +63,9 @@ returns-3 c =
     let a = admitted r in
     let args = start r .args in
     let test = c .before .before .before .before in
-    let near : args .entry < entries (r .plan .given .0 .0) = omega (arith, test .before .entries .ensures, test .if1 .left) in (
+    let near : args .entry < product (args .radices .now) = omega (arith, test .before .entries .ensures, test .if1 .left) in (
       sym (a .rest _ ∙ rw (lt-ltb _ _ near)),
-      c .before .before .fill-row .ensures ∙ ap (λ (P : Plan). row (lend P (args .weights .now) (args .tables .now) (args .d .now)) (args .entry)) (sym (a .same)),
+      c .before .before .fill-row .ensures ∙ ap (λ (P : Plan). row (lend P (args .radices .now) (args .weights .now) (args .tables .now) (args .d .now)) (args .entry)) (sym (a .same)),
     )
 
 pub row-spec : {M : Type 1} → statement M

@@ -1,63 +1,78 @@
--- `plan::rows::fill_digits` meets its contract: q is the weight of the digit before, s to the n - j, and a turn writes digit j.
+-- `plan::rows::fill_digits` meets its contract: q is the product of the radices from digit j on, and a turn writes digit j.
 -- Assumes nothing.
 use mathlib.Core.Path.{_≡_, sym, ap, _∙_}
-use Prim.Native.Nat.{ℕ, suc, _-_, _/_, _%_, _^_, _<_}
-use native.Mathlib.Nat.{mod-lt, sub-zero}
+use Prim.Native.Nat.{ℕ, suc, _-_, _/_, _%_, _<_}
+use native.Mathlib.Nat.{mod-lt}
 use native.Mathlib.Numerals.{add-one}
 use native.Mathlib.Omega.{arith}
-use borrow.Author.Needs.{needs}
+use lib.ListN.{length, drop}
+use Rattle.lists.specs.Places.{at}
 use Rattle.lists.proofs.Overwrite.{Written, written-none, written-next, written-all}
+use Rattle.plan.specs.Numbers.{product}
 use Rattle.plan.specs.Rows.{digit}
-use Rattle.plan.proofs.Bounds.{prime-high}
-use Rattle.plan.proofs.Digits.{weight-next, weight-positive}
+use Rattle.plan.proofs.Radix.{radices-positive, drop-positive}
+use Rattle.plan.proofs.Digits.{weight-next}
 use Rattle.plan.proofs.rows.fill_digits.Statement.{statement}
 use Rattle.plan.proofs.rows.fill_digits.Tie as tie
 
 abbrev Inv-loop : tie.InvT-loop
-Inv-loop plan entry x₀ s q₀ j₀ x q j = Written (plan .n) (digit plan entry) x₀ j x × (q ≡ plan .s ^ (plan .n - j))
+Inv-loop plan radices entry x₀ q₀ j₀ x q j = Written (plan .n) (digit radices entry) x₀ j x × (q ≡ product (drop j radices))
 
 abbrev μ-loop : tie.MeasureT-loop
-μ-loop plan entry x₀ s q₀ j₀ x q j = plan .n - j
+μ-loop plan radices entry x₀ q₀ j₀ x q j = plan .n - j
 
-cast-s : tie.Need-cast-s Inv-loop μ-loop
-cast-s c = search needs
+abbrev turn : tie.Then1 Inv-loop μ-loop → tie.At-loop Inv-loop μ-loop
+turn c = c .before .before
+
+abbrev start : tie.At-loop Inv-loop μ-loop → tie.Start Inv-loop μ-loop
+start c = c .before .before .before .before
+
+-- radix j is lent and not 0, the product behind it is the next weight, and that is not 0
+lent : (c : tie.Then1 Inv-loop μ-loop) → turn c .loop .j < length (start (turn c) .args .radices .now)
+lent c = omega (arith, start (turn c) .pre .0 .count)
+
+positive : (c : tie.Start Inv-loop μ-loop) (j : ℕ) → j < length (c .args .radices .now) → 0 < at (c .args .radices .now) j
+positive c = radices-positive (c .args .plan .p) (c .args .radices .now) (c .pre .0 .fit)
+
+weight : (c : tie.Then1 Inv-loop μ-loop) →
+    let R = start (turn c) .args .radices .now in
+    let loop = turn c .loop in
+    loop .q / at R (loop .j) ≡ product (drop (suc (loop .j)) R)
+weight c =
+    let R = start (turn c) .args .radices .now in
+    let loop = turn c .loop in
+    ap (λ (z : ℕ). z / at R (loop .j)) (loop .inv .1) ∙ weight-next R (loop .j) (lent c) (positive (start (turn c)) (loop .j) (lent c))
 
 entries-requires : tie.Need-entries-requires Inv-loop μ-loop
 entries-requires c κs = c .before .before .pre .0
 
 loop-holds : tie.Need-loop-holds Inv-loop μ-loop
-loop-holds c =
-    let pre = c .before .before .before .pre in
-    let args = c .before .before .before .args in
-    (written-none _ _ _ (pre .1), c .entries .ensures ∙ ap (λ (k : ℕ). args .plan .s ^ k) (sym (sub-zero _)))
+loop-holds c = (written-none _ _ _ (c .before .before .before .pre .1), c .entries .ensures)
 
--- the next digit's weight
-weight : (c : tie.Then1 Inv-loop μ-loop) →
-    let args = c .before .before .before .before .before .before .args in
-    c .before .before .loop .q / args .plan .s ≡ args .plan .s ^ (args .plan .n - suc (c .before .before .loop .j))
-weight c =
-    let args = c .before .before .before .before .before .before .args in
-    let P = args .plan in
-    let pos : 0 < P .s = omega arith in
-    rw (c .before .before .loop .inv .1) (weight-next (P .s) (P .n) (c .before .before .loop .j) pos (c .if1 .taken))
+shared-slice-read-r : tie.Need-shared-slice-read-r Inv-loop μ-loop
+shared-slice-read-r c = lent (c .before)
+
+cast-r : tie.Need-cast-r Inv-loop μ-loop
+cast-r c = omega (arith, c .shared-slice-known2 .given (turn (c .before) .loop .j))
 
 div-q : tie.Need-div-q Inv-loop μ-loop
-div-q c = omega arith
+div-q c = let r = c .before in positive (start (turn r)) (turn r .loop .j) (lent r)
 
 div-x : tie.Need-div-x Inv-loop μ-loop
 div-x c =
-    let args = c .before .before .before .before .before .before .args in
-    omega (arith, weight c, weight-positive (args .plan .s) (args .plan .n - suc (c .before .before .loop .j)) (omega arith))
+    let r = c .before in
+    let s = start (turn r) in
+    omega (arith, weight r, drop-positive (s .args .radices .now) (positive s) (suc (turn r .loop .j)))
 
 rem-x : tie.Need-rem-x Inv-loop μ-loop
-rem-x c = omega arith
+rem-x c = let r = c .before in positive (start (turn r)) (turn r .loop .j) (lent r)
 
 cast-x : tie.Need-cast-x Inv-loop μ-loop
 cast-x c =
-    let args = c .before .before .before .before .before .before .args in
-    let pre = c .before .before .before .before .before .before .pre in
-    let pos : 0 < args .plan .s = omega arith in
-    omega (arith, mod-lt (args .entry / (c .before .before .loop .q / args .plan .s)) pos, prime-high (pre .0))
+    let r = c .before in
+    let loop = turn r .loop in
+    let a = start (turn r) .args in
+    omega (arith, mod-lt (a .entry / (loop .q / at (a .radices .now) (loop .j))) (positive (start (turn r)) (loop .j) (lent r)), c .shared-slice-known2 .given (loop .j))
 
 slice-write-x : tie.Need-slice-write-x Inv-loop μ-loop
 slice-write-x c = omega arith
@@ -71,9 +86,11 @@ loop-less c = omega arith
 loop-again : tie.Need-loop-again Inv-loop μ-loop
 unfolding digit
 loop-again c =
-    let args = c .before .before .before .before .before .before .args in (
-      written-next _ (c .before .before .loop .inv .0) (c .if1 .taken) (ap (λ (z : ℕ). args .entry / z % args .plan .s) (weight c)),
-      weight c ∙ ap (λ (k : ℕ). args .plan .s ^ (args .plan .n - k)) (sym (add-one (c .before .before .loop .j))),
+    let r = c .before in
+    let loop = turn r .loop in
+    let a = start (turn r) .args in (
+      written-next _ (loop .inv .0) (r .if1 .taken) (ap (λ (z : ℕ). a .entry / z % at (a .radices .now) (loop .j)) (weight r)),
+      weight r ∙ ap (λ (k : ℕ). product (drop k (a .radices .now))) (sym (add-one (loop .j))),
     )
 
 same-length : tie.Need-same-length Inv-loop μ-loop
@@ -88,9 +105,10 @@ fill-digits-spec =
     (tie.spec
     Inv-loop
     μ-loop
-    cast-s
     entries-requires
     loop-holds
+    shared-slice-read-r
+    cast-r
     div-q
     div-x
     rem-x

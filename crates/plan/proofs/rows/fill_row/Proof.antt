@@ -15,11 +15,11 @@ use Rattle.plan.proofs.rows.fill_row.Statement.{statement}
 use Rattle.plan.proofs.rows.fill_row.Tie as tie
 
 abbrev start : tie.After-fill-variables → tie.Start
-start c = c .before .before .before .before .before .before .before
+start c = c .before .before .before .before .before .before .before .before
 
 -- the plan as lent
 abbrev plan : tie.After-fill-variables → Given
-plan c = let a = start c .args in lend (a .plan) (a .weights .now) (a .tables .now) (a .d .now)
+plan c = let a = start c .args in lend (a .plan) (a .radices .now) (a .weights .now) (a .tables .now) (a .d .now)
 
 variables-requires : tie.Need-variables-requires
 variables-requires c κs = search needs
@@ -32,12 +32,12 @@ slice-aggregate-fill-variables c = sym (length-take-le (c .before .variables .re
 
 fill-variables-requires : tie.Need-fill-variables-requires
 fill-variables-requires c κs =
-    let pre = c .before .before .before .before .before .before .pre in
+    let pre = c .before .before .before .before .before .before .before .pre in
     (pre .0, (pre .1 .0, length-take-le (c .before .variables .result) _ (omega arith) ∙ c .before .variables .ensures))
 
 -- the variables, at the array's front
 abbrev filled : tie.After-fill-variables → List ℕ
-filled c = c .fill-variables .last .1 .1 .1 .1 .1 .0
+filled c = c .fill-variables .last .1 .1 .1 .1 .1 .1 .0
 
 count : (c : tie.After-fill-variables) → length (filled c) ≡ c .before .before .variables .result
 count c = ap length (c .fill-variables .ensures) ∙ values-length (plan c) (start c .args .entry) ∙ sym (c .before .before .variables .ensures)
@@ -60,7 +60,7 @@ fill-blocks-requires c κs =
     let G = plan r in
     let i = start r .args .entry in
     let x = front r _ in
-    let residues = values-residues G i (pre .0) (pre .1 .0 .tables-residues) in
+    let residues = values-residues G i (pre .0) (pre .1 .0) in
     (pre .0, (pre .1 .0 .products-length, ((ap length x ∙ values-length G i, λ j. subst⁻¹ (λ (xs : List ℕ). at xs j < G .numbers .p) x (residues j)), pre .1 .1)))
 
 same-length : tie.Need-same-length

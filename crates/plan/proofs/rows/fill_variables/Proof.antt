@@ -15,13 +15,13 @@ use Rattle.plan.proofs.rows.fill_variables.Statement.{statement}
 use Rattle.plan.proofs.rows.fill_variables.Tie as tie
 
 abbrev Inv-loop : tie.InvT-loop
-Inv-loop plan weights tables d entry x₀ n p size begin₀ k₀ x begin k = Linked (lend plan weights tables d) entry k begin x
+Inv-loop plan radices weights tables d entry x₀ n p size begin₀ k₀ x begin k = Linked (lend plan radices weights tables d) entry k begin x
 
 abbrev μ-loop : tie.MeasureT-loop
-μ-loop plan weights tables d entry x₀ n p size begin₀ k₀ x begin k = plan .m - k
+μ-loop plan radices weights tables d entry x₀ n p size begin₀ k₀ x begin k = plan .m - k
 
 abbrev digits-start : tie.After-fill-digits Inv-loop μ-loop → tie.Start Inv-loop μ-loop
-digits-start c = c .before .before .before .before .before .before
+digits-start c = c .before .before .before .before .before .before .before
 
 abbrev turn : tie.Then1 Inv-loop μ-loop → tie.At-loop Inv-loop μ-loop
 turn c = c .before .before
@@ -49,18 +49,18 @@ slice-relend-prefix-fill-digits c = omega arith
 
 slice-aggregate-fill-digits : tie.Need-slice-aggregate-fill-digits Inv-loop μ-loop
 slice-aggregate-fill-digits c =
-    let args = c .before .before .before .before .before .args in
+    let args = c .before .before .before .before .before .before .args in
     sym (length-take-le (args .plan .n) (args .x .now) (omega arith))
 
 fill-digits-requires : tie.Need-fill-digits-requires Inv-loop μ-loop
 fill-digits-requires c κs =
-    let r = c .before .before .before .before .before in
-    (r .pre .0, length-take-le (r .args .plan .n) (r .args .x .now) (omega arith))
+    let r = c .before .before .before .before .before .before in
+    (r .pre .1 .0 .radices, length-take-le (r .args .plan .n) (r .args .x .now) (omega arith))
 
 loop-holds : tie.Need-loop-holds Inv-loop μ-loop
 loop-holds c =
     let r = digits-start (c .before .before) in
-    linked-none _ _ (c .before .before .fill-digits .last .1 .1 .0) (r .args .x .now) (c .before .before .fill-digits .ensures) (r .pre .1 .1)
+    linked-none _ _ (c .before .before .fill-digits .last .1 .1 .1 .0) (r .args .x .now) (c .before .before .fill-digits .ensures) (r .pre .1 .1)
 
 add-place : tie.Need-add-place Inv-loop μ-loop
 add-place c = omega arith
@@ -106,7 +106,7 @@ link-requires c κs =
     let P = a .plan in
     let cut = cut-length (a .weights .now) (loop .begin) (P .n + loop .k) (weights-room r) in
     let table = cut-length (a .tables .now) (loop .k * P .p) (P .p) (tables-room r) in
-    (modulus (start (turn r) .pre .0), (length-take-le _ (loop .x) (omega arith) ∙ sym cut, (omega (arith, cut), table)))
+    (modulus (start (turn r) .pre .0), (length-take-le _ (loop .x) (omega arith) ∙ sym cut, (omega (arith, cut, start (turn r) .pre .0 .variable-limit), table)))
 
 slice-write-x : tie.Need-slice-write-x Inv-loop μ-loop
 slice-write-x c = omega arith
@@ -122,7 +122,7 @@ loop-again c =
     let r = c .before .before .before .before in
     let loop = turn r .loop in
     let a = start (turn r) .args in
-    let G = lend (a .plan) (a .weights .now) (a .tables .now) (a .d .now) in
+    let G = lend (a .plan) (a .radices .now) (a .weights .now) (a .tables .now) (a .d .now) in
     linked-next (c .link .result) (loop .inv) (r .if1 .taken)
     (c .link .ensures
     ∙ rw (loop .inv .done)
