@@ -86,11 +86,11 @@ loop-less c = omega arith
 loop-again : tie.Need-loop-again Inv-loop μ-loop
 unfolding digit
 loop-again c =
-    let r = c .before in
-    let loop = turn r .loop in
-    let a = start (turn r) .args in (
-      written-next _ (loop .inv .0) (r .if1 .taken) (ap (λ (z : ℕ). a .entry / z % at (a .radices .now) (loop .j)) (weight r)),
-      weight r ∙ ap (λ (k : ℕ). product (drop k (a .radices .now))) (sym (add-one (loop .j))),
+    let written = c .before in
+    let loop = turn written .loop in
+    let a = start (turn written) .args in (
+      written-next _ (loop .inv .0) (written .if1 .taken) (ap (λ (z : ℕ). a .entry / z % at (a .radices .now) (loop .j)) (weight written)),
+      weight written ∙ ap (λ (k : ℕ). product (drop k (a .radices .now))) (sym (add-one (loop .j))),
     )
 
 same-length : tie.Need-same-length Inv-loop μ-loop
