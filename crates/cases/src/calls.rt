@@ -1,4 +1,4 @@
-// Each call with its answer, and after it every byte of a part that it was lent to write. A call k is one of 9 to 19, and `held` is as main.rt says.
+// Each call with its answer, and after it every byte of a part that it was lent to write. A call k is one of 10 to 20, and `held` is as main.rt says.
 use crate::parts::front;
 use crate::parts::lent;
 use crate::parts::lent_steps;
@@ -43,20 +43,22 @@ fn numbers(part: &[u16]) {
 // The check of a plan, or the row of an entry.
 fn on_plan(
     k: usize,
-    held: &[usize; 16],
+    held: &[usize; 17],
+    radices: &[u8],
     weights: &[u8],
     tables: &[u8],
     d: &[u8],
     row: &mut [u8],
     entry: usize,
 ) {
-    if k == 9 {
+    if k == 10 {
         let answer = plan::check(
             held[0],
             held[1],
             held[2],
             held[3],
             held[4],
+            radices,
             weights,
             tables,
             d,
@@ -69,6 +71,7 @@ fn on_plan(
             held[2],
             held[3],
             held[4],
+            radices,
             weights,
             tables,
             d,
@@ -83,20 +86,22 @@ fn on_plan(
 // The test of a store, or the reading off.
 fn on_store(
     k: usize,
-    held: &[usize; 16],
+    held: &[usize; 17],
+    radices: &[u8],
     weights: &[u8],
     tables: &[u8],
     d: &[u8],
     store: &[u8],
     beta: &mut [u8],
 ) {
-    if k == 11 {
+    if k == 12 {
         let answer = store::test(
             held[0],
             held[1],
             held[2],
             held[3],
             held[4],
+            radices,
             weights,
             tables,
             d,
@@ -110,6 +115,7 @@ fn on_store(
             held[2],
             held[3],
             held[4],
+            radices,
             weights,
             tables,
             d,
@@ -124,7 +130,8 @@ fn on_store(
 
 // A filing.
 fn file(
-    held: &[usize; 16],
+    held: &[usize; 17],
+    radices: &[u8],
     weights: &[u8],
     tables: &[u8],
     d: &[u8],
@@ -138,6 +145,7 @@ fn file(
         held[2],
         held[3],
         held[4],
+        radices,
         weights,
         tables,
         d,
@@ -157,7 +165,8 @@ fn file(
 
 // The length of the part that the writer hands back; with this call the loan of the slice ends.
 fn handed(
-    held: &[usize; 16],
+    held: &[usize; 17],
+    radices: &[u8],
     weights: &[u8],
     tables: &[u8],
     d: &[u8],
@@ -170,6 +179,7 @@ fn handed(
         held[2],
         held[3],
         held[4],
+        radices,
         weights,
         tables,
         d,
@@ -182,20 +192,22 @@ fn handed(
 // The check of a writing, or one of the two writers.
 fn on_program(
     k: usize,
-    held: &[usize; 16],
+    held: &[usize; 17],
+    radices: &[u8],
     weights: &[u8],
     tables: &[u8],
     d: &[u8],
     beta: &[u8],
     steps: &mut [u16],
 ) {
-    if k == 14 {
+    if k == 15 {
         let answer = program::check_writing(
             held[0],
             held[1],
             held[2],
             held[3],
             held[4],
+            radices,
             weights,
             tables,
             d,
@@ -205,13 +217,14 @@ fn on_program(
         say(b"number", answer as usize);
         return;
     }
-    if k == 15 {
+    if k == 16 {
         let answer = program::write_into(
             held[0],
             held[1],
             held[2],
             held[3],
             held[4],
+            radices,
             weights,
             tables,
             d,
@@ -222,13 +235,14 @@ fn on_program(
         numbers(steps);
         return;
     }
-    say(b"length", handed(held, weights, tables, d, beta, steps));
+    say(b"length", handed(held, radices, weights, tables, d, beta, steps));
     numbers(steps);
 }
 
 // A run.
 fn run(
-    held: &[usize; 16],
+    held: &[usize; 17],
+    radices: &[u8],
     weights: &[u8],
     tables: &[u8],
     d: &[u8],
@@ -241,6 +255,7 @@ fn run(
         held[2],
         held[3],
         held[4],
+        radices,
         weights,
         tables,
         d,
@@ -257,13 +272,14 @@ fn run(
 }
 
 // The worst norm.
-fn norm(held: &[usize; 16], weights: &[u8], tables: &[u8], d: &[u8], beta: &[u8]) {
+fn norm(held: &[usize; 17], radices: &[u8], weights: &[u8], tables: &[u8], d: &[u8], beta: &[u8]) {
     let answer = listing::worst_norm(
         held[0],
         held[1],
         held[2],
         held[3],
         held[4],
+        radices,
         weights,
         tables,
         d,
@@ -289,7 +305,7 @@ fn changed(out: &[u8], begin: usize) -> usize {
 }
 
 // The text printed into the first bytes of 131,072 nines: the output, and how many bytes behind it have changed. Then the text is empty.
-pub fn print_text(held: &mut [usize; 16], parts: &[[u8; 2048]; 5], room: usize) {
+pub fn print_text(held: &mut [usize; 17], parts: &[[u8; 2048]; 6], room: usize) {
     let mut out = [9u8; 131072];
     let end = text::print_text(front(&parts[0], held[8]), lent(&mut out, room));
     say(b"length", end);
@@ -298,70 +314,76 @@ pub fn print_text(held: &mut [usize; 16], parts: &[[u8; 2048]; 5], room: usize) 
     held[8] = 0;
 }
 
-// The calls 9 to 13, on a plan and a store.
+// The calls 10 to 14, on a plan and a store.
 pub fn with_store(
     k: usize,
     args: &[usize; 2048],
-    held: &[usize; 16],
-    parts: &[[u8; 2048]; 5],
+    held: &[usize; 17],
+    parts: &[[u8; 2048]; 6],
     row: &mut [u8],
     store: &mut [u8],
     beta: &mut [u8],
 ) {
-    let weights = front(&parts[1], held[9]);
-    let tables = front(&parts[2], held[10]);
-    let d = front(&parts[3], held[11]);
+    let radices = front(&parts[1], held[9]);
+    let weights = front(&parts[2], held[10]);
+    let tables = front(&parts[3], held[11]);
+    let d = front(&parts[4], held[12]);
     match k {
-        9 | 10 => on_plan(k, held, weights, tables, d, lent(row, held[13]), args[0]),
-        12 => file(
+        10 | 11 => on_plan(k, held, radices, weights, tables, d, lent(row, held[14]), args[0]),
+        13 => file(
             held,
+            radices,
             weights,
             tables,
             d,
-            lent(store, held[14]),
+            lent(store, held[15]),
             args[0],
             args[1],
         ),
         _ => on_store(
             k,
             held,
+            radices,
             weights,
             tables,
             d,
-            front(store, held[14]),
-            lent(beta, held[15]),
+            front(store, held[15]),
+            lent(beta, held[16]),
         ),
     }
 }
 
-// The calls 14 to 18, about a program.
+// The calls 15 to 19, about a program.
 pub fn with_program(
     k: usize,
-    held: &[usize; 16],
-    parts: &[[u8; 2048]; 5],
+    held: &[usize; 17],
+    parts: &[[u8; 2048]; 6],
     beta: &[u8],
     steps: &mut [u16],
 ) {
-    let weights = front(&parts[1], held[9]);
-    let tables = front(&parts[2], held[10]);
-    let d = front(&parts[3], held[11]);
+    let radices = front(&parts[1], held[9]);
+    let weights = front(&parts[2], held[10]);
+    let tables = front(&parts[3], held[11]);
+    let d = front(&parts[4], held[12]);
     match k {
-        17 => run(
+        18 => run(
             held,
+            radices,
             weights,
             tables,
             d,
-            front(&parts[4], held[12]),
+            front(&parts[5], held[13]),
             lent_steps(steps, held[5]),
         ),
-        18 => norm(held, weights, tables, d, front(beta, held[15])),
+        19 => norm(held, radices, weights, tables, d, front(beta, held[16])),
         _ => on_program(
             k,
             held,
+            radices,
             weights,
             tables,
             d,
-            front(beta, held[15]),
+            front(beta, held[16]),
             lent_steps(steps, held[5]),
         ),
     }

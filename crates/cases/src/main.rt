@@ -3,8 +3,8 @@
 // must be, made by rust/reference/examples/cases.
 //
 // A command is known by its place among the words in `read`, from 0. `args` has the numbers of the line. `held` has p s n m t, then at 5 the
-// length of the step slice, at 6 the count of the line's numbers, and from 8 the lengths of the byte parts: the text, weights, tables, d and
-// digits, which stand in `parts`, then row, store and beta, which calls may write.
+// length of the step slice, at 6 the count of the line's numbers, and from 8 the lengths of the byte parts: the text, radices, weights,
+// tables, d and digits, which stand in `parts`, then row, store and beta, which calls may write.
 use crate::calls::print_text;
 use crate::calls::with_program;
 use crate::calls::with_store;
@@ -25,8 +25,8 @@ mod parts;
 fn set(
     k: usize,
     args: &[usize; 2048],
-    held: &mut [usize; 16],
-    parts: &mut [[u8; 2048]; 5],
+    held: &mut [usize; 17],
+    parts: &mut [[u8; 2048]; 6],
     row: &mut [u8; 2048],
     store: &mut [u8; 2048],
     beta: &mut [u8; 2048],
@@ -40,20 +40,20 @@ fn set(
             held[3] = args[3];
             held[4] = args[4];
         }
-        1..=4 => {
+        1..=5 => {
             held[k + 8] = held[6];
             put(&mut parts[k], args);
         }
-        5 => {
-            held[13] = held[6];
-            put(row, args);
-        }
         6 => {
             held[14] = held[6];
-            put(store, args);
+            put(row, args);
         }
         7 => {
             held[15] = held[6];
+            put(store, args);
+        }
+        8 => {
+            held[16] = held[6];
             put(beta, args);
         }
         _ => {
@@ -63,24 +63,24 @@ fn set(
     }
 }
 
-// Prints a line, and reads a command: its numbers into `args`, how many they are into held[6]. Answers which it is, 20 for a line of a text,
-// and 21 for a name or a malformed line.
-fn read(line: &[u8], args: &mut [usize; 2048], held: &mut [usize; 16]) -> usize {
+// Prints a line, and reads a command: its numbers into `args`, how many they are into held[6]. Answers which it is, 21 for a line of a text,
+// and 22 for a name or a malformed line.
+fn read(line: &[u8], args: &mut [usize; 2048], held: &mut [usize; 17]) -> usize {
     io::write_all(1, line);
     match byte(line, 0) {
-        b'#' | b'\n' => return 21,
-        b'>' => return 20,
+        b'#' | b'\n' => return 22,
+        b'>' => return 21,
         _ => {}
     }
     let k = find(
-        b"plan weights tables d digits row store beta steps plan::check plan::row store::test store::file store::coefficients \
+        b"plan radices weights tables d digits row store beta steps plan::check plan::row store::test store::file store::coefficients \
           program::check_writing program::write_into program::write program::run listing::worst_norm text::print_text ",
         line,
     );
     let count = numbers(line, args);
     if wanted(k, count) != count {
         io::write_all(1, b"= malformed\n");
-        return 21;
+        return 22;
     }
     held[6] = count;
     k
@@ -90,8 +90,8 @@ fn read(line: &[u8], args: &mut [usize; 2048], held: &mut [usize; 16]) -> usize 
 fn obey(
     line: &[u8],
     args: &mut [usize; 2048],
-    held: &mut [usize; 16],
-    parts: &mut [[u8; 2048]; 5],
+    held: &mut [usize; 17],
+    parts: &mut [[u8; 2048]; 6],
     row: &mut [u8; 2048],
     store: &mut [u8; 2048],
     beta: &mut [u8; 2048],
@@ -99,11 +99,11 @@ fn obey(
 ) {
     let k = read(line, args, held);
     match k {
-        0..=8 => set(k, args, held, parts, row, store, beta, steps),
-        9..=13 => with_store(k, args, held, parts, row, store, beta),
-        14..=18 => with_program(k, held, parts, beta, steps),
-        19 => print_text(held, parts, args[0]),
-        20 => held[8] = append(&mut parts[0], held[8], line),
+        0..=9 => set(k, args, held, parts, row, store, beta, steps),
+        10..=14 => with_store(k, args, held, parts, row, store, beta),
+        15..=19 => with_program(k, held, parts, beta, steps),
+        20 => print_text(held, parts, args[0]),
+        21 => held[8] = append(&mut parts[0], held[8], line),
         _ => {}
     }
 }
@@ -111,8 +111,8 @@ fn obey(
 // Every line of the input, one after another.
 fn every_line(input: &[u8]) {
     let mut args = [0usize; 2048];
-    let mut held = [0usize; 16];
-    let mut parts = [[0u8; 2048]; 5];
+    let mut held = [0usize; 17];
+    let mut parts = [[0u8; 2048]; 6];
     let mut row = [0u8; 2048];
     let mut store = [0u8; 2048];
     let mut beta = [0u8; 2048];
