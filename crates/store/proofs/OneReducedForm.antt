@@ -48,7 +48,7 @@ module _ (G : Given) (S : List ℕ) (i v : ℕ) where
       e = equation G i v
 
       small : v < G .numbers .p
-      small = omega (arith, within .radix-high)
+      small = omega (arith, within .value-high)
 
       residues : (j : ℕ) → j ≤ C → e j < p
       residues = equation-residues G i v within lent small

@@ -15,7 +15,7 @@ use borrow.Author.Tests.{eqb-true, ltb-true, not-false}
 use Rattle.plan.specs.declared.numbers.Plan.{Plan}
 use Rattle.plan.specs.declared.admission.Own.the-variants.{Store}
 use Rattle.plan.specs.Causes.{first}
-use Rattle.plan.specs.Numbers.{columns, entries, Within}
+use Rattle.plan.specs.Numbers.{columns, product, Within}
 use Rattle.plan.specs.Parts.{Given, storeSize, Lent}
 use Rattle.plan.proofs.Bounds.{modulus}
 use Rattle.plan.proofs.Refusals.{none-met}
@@ -44,7 +44,7 @@ module _ (G : Given) (S : List ℕ) (i v : ℕ) where
     pub within : Within (G .numbers)
     pub lent : Lent G
     pub ready : Ready (G .numbers .p) (columns (G .numbers)) S
-    pub near : i < entries (G .numbers)
+    pub near : i < product (G .radices)
     pub below : v < G .numbers .s
     pub kept : isContradiction (outcomeOf G S i v) ≡ false
 
@@ -58,7 +58,7 @@ module _ (G : Given) (S : List ℕ) (i v : ℕ) where
         lent = u .lent;
         ready = ready-of P S (u .within) (eqb-true (length S) (storeSize (columns P)) (u .own-fits))
             (not-false (isReduced (P .p) (columns P) (cells (columns P) S)) (none .0));
-        near = ltb-true i (entries P) (not-false (ltb i (entries P)) (none .1 .0));
+        near = ltb-true i (product (G .radices)) (not-false (ltb i (product (G .radices))) (none .1 .0));
         below = ltb-true v (P .s) (not-false (ltb v (P .s)) (none .1 .1 .0));
         kept = none .1 .1 .1 .0;
       }

@@ -1,10 +1,10 @@
--- The calls on a store: what each answers and leaves, and the causes it can meet, in number order (01, "The store" and "Turned down").
--- G is a plan as lent, P its numbers. Stands on `Elimination`, and on the rows and causes of `plan`.
+-- The calls on a store: what each answers and leaves, and the causes it can meet, in number order (01, "The store" and "Turned down"; 02,
+-- C-11). G is a plan as lent, P its numbers. Stands on `Elimination`, and on the rows and causes of `plan`.
 --     equation G i v             entry i with value v as an equation: row i, then v
 --     emptyStore P               "An empty store is all zeros"
 --     outcomeOf G store i v      what filing entry i with value v comes to
 --     storeCause P store         6, "store not in reduced form"
---     valueCause P v             8, "value not below s"
+--     valueCause P v             8, "value not below s", whatever the radices are: "The header's s bounds table values only"
 --     conflictCause G store i v  9, "contradiction"
 --     testOwn, fileOwn, coefficientsOwn                each call's own causes
 --     testCauses, fileCauses, coefficientsCauses       all causes of each call: 1 to 5 of the plan and the call's own parts, then its own

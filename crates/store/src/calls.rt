@@ -20,14 +20,26 @@ pub fn test(
     n: usize,
     m: usize,
     t: usize,
+    radices: &[u8],
     weights: &[u8],
     tables: &[u8],
     d: &[u8],
     store: &[u8],
 ) -> u8
-    ensures { λ r. ⌜ r ≡ first (specs.testCauses (given p s n m t (now (weights .entry)) (now (tables .entry)) (now (d .entry))) (now (store .entry))) ⌝ }
+    ensures { λ r. ⌜ r ≡ first (specs.testCauses (given p s n m t (now (radices .entry)) (now (weights .entry)) (now (tables .entry)) (now (d .entry))) (now (store .entry))) ⌝ }
 {
-    match admit(p, s, n, m, t, weights, tables, d, Own::Store(store.len())) {
+    match admit(
+        p,
+        s,
+        n,
+        m,
+        t,
+        radices,
+        weights,
+        tables,
+        d,
+        Own::Store(store.len()),
+    ) {
         Checked::Refused(k) => k,
         Checked::Accepted(plan) => {
             if !is_reduced(store, plan.columns(), plan.p) {
@@ -45,6 +57,7 @@ pub fn file(
     n: usize,
     m: usize,
     t: usize,
+    radices: &[u8],
     weights: &[u8],
     tables: &[u8],
     d: &[u8],
@@ -52,22 +65,33 @@ pub fn file(
     entry: usize,
     value: usize,
 ) -> Filed
-    ensures { λ r. ⌜ specs.answerOf r ≡ specs.fileAnswer (given p s n m t (now (weights .entry)) (now (tables .entry)) (now (d .entry))) (now (store .entry)) entry value ⌝ }
-    ensures { λ r. ⌜ now (store .exit) ≡ specs.fileStore (given p s n m t (now (weights .entry)) (now (tables .entry)) (now (d .entry))) (now (store .entry)) entry value ⌝ }
+    ensures { λ r. ⌜ specs.answerOf r ≡ specs.fileAnswer (given p s n m t (now (radices .entry)) (now (weights .entry)) (now (tables .entry)) (now (d .entry))) (now (store .entry)) entry value ⌝ }
+    ensures { λ r. ⌜ now (store .exit) ≡ specs.fileStore (given p s n m t (now (radices .entry)) (now (weights .entry)) (now (tables .entry)) (now (d .entry))) (now (store .entry)) entry value ⌝ }
 {
-    match admit(p, s, n, m, t, weights, tables, d, Own::Store(store.len())) {
+    match admit(
+        p,
+        s,
+        n,
+        m,
+        t,
+        radices,
+        weights,
+        tables,
+        d,
+        Own::Store(store.len()),
+    ) {
         Checked::Refused(k) => Filed::Refused(k),
         Checked::Accepted(plan) => {
             if !is_reduced(store, plan.columns(), plan.p) {
                 return Filed::Refused(6);
             }
-            if plan.entries() <= entry {
+            if plan.entries(radices) <= entry {
                 return Filed::Refused(7);
             }
             if (plan.s as usize) <= value {
                 return Filed::Refused(8);
             }
-            file_entry(plan, weights, tables, d, store, entry, value as u8)
+            file_entry(plan, radices, weights, tables, d, store, entry, value as u8)
         }
     }
 }
@@ -79,13 +103,14 @@ pub fn coefficients(
     n: usize,
     m: usize,
     t: usize,
+    radices: &[u8],
     weights: &[u8],
     tables: &[u8],
     d: &[u8],
     store: &[u8],
     beta: &mut [u8],
 ) -> u8
-    ensures { λ r. ⌜ r ≡ first (specs.coefficientsCauses (given p s n m t (now (weights .entry)) (now (tables .entry)) (now (d .entry))) (now (store .entry)) (now (beta .entry))) ⌝ }
+    ensures { λ r. ⌜ r ≡ first (specs.coefficientsCauses (given p s n m t (now (radices .entry)) (now (weights .entry)) (now (tables .entry)) (now (d .entry))) (now (store .entry)) (now (beta .entry))) ⌝ }
     ensures { λ r. ⌜ now (beta .exit) ≡ result r (specs.coefficients (columns (plan p s n m t)) (now (store .entry))) (now (beta .entry)) ⌝ }
 {
     match admit(
@@ -94,6 +119,7 @@ pub fn coefficients(
         n,
         m,
         t,
+        radices,
         weights,
         tables,
         d,

@@ -219,6 +219,7 @@ pub fn file_equation(store: &mut [u8], e: &[u8], c: usize, p: u8) -> Filed
 // Files entry `entry` with `value`: its row, then the value.
 pub fn file_entry(
     plan: Plan,
+    radices: &[u8],
     weights: &[u8],
     tables: &[u8],
     d: &[u8],
@@ -227,15 +228,15 @@ pub fn file_entry(
     value: u8,
 ) -> Filed
     requires { ⌜ Within plan ⌝ }
-    requires { ⌜ Lent (lend plan (now weights) (now tables) (now d)) ⌝ }
+    requires { ⌜ Lent (lend plan (now radices) (now weights) (now tables) (now d)) ⌝ }
     requires { ⌜ Ready (plan .p) (columns plan) (now store) ⌝ }
     requires { ⌜ value < plan .p ⌝ }
-    ensures { λ r. ⌜ calls.answerOf r ≡ calls.answered (calls.outcomeOf (lend plan (now (weights .entry)) (now (tables .entry)) (now (d .entry))) (now (store .entry)) entry value) ⌝ }
-    ensures { λ r. ⌜ now (store .exit) ≡ calls.filed (lend plan (now (weights .entry)) (now (tables .entry)) (now (d .entry))) (now (store .entry)) entry value ⌝ }
+    ensures { λ r. ⌜ calls.answerOf r ≡ calls.answered (calls.outcomeOf (lend plan (now (radices .entry)) (now (weights .entry)) (now (tables .entry)) (now (d .entry))) (now (store .entry)) entry value) ⌝ }
+    ensures { λ r. ⌜ now (store .exit) ≡ calls.filed (lend plan (now (radices .entry)) (now (weights .entry)) (now (tables .entry)) (now (d .entry))) (now (store .entry)) entry value ⌝ }
 {
     let mut row = [0u8; Plan::COLUMNS + 1];
     let c = plan.columns();
-    plan::fill_row(plan, weights, tables, d, entry, &mut row[..c]);
+    plan::fill_row(plan, radices, weights, tables, d, entry, &mut row[..c]);
     row[c] = value;
     let width = c + 1;
     file_equation(store, &row[..width], c, plan.p)

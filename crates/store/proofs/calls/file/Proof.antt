@@ -7,7 +7,7 @@ use native.Mathlib.Omega.{arith}
 use lib.ListN.{length}
 use borrow.Author.Tests.{eqb-true, not-true, not-false, le-ltb, lt-ltb}
 use borrow.Author.Needs.{needs}
-use Rattle.plan.specs.Numbers.{columns, entries, answerOf}
+use Rattle.plan.specs.Numbers.{columns, product, answerOf}
 use Rattle.plan.specs.Parts.{Given, lend, given, storeSize}
 use Rattle.plan.specs.declared.numbers.Plan.{Plan}
 use Rattle.plan.specs.declared.admission.Own.the-variants.{Store}
@@ -19,12 +19,12 @@ use Rattle.store.proofs.calls.file.Statement.{statement}
 use Rattle.store.proofs.calls.file.Tie as tie
 
 abbrev start : tie.After-plan → tie.Start
-start c = c .before .before .before .before .before .before .before
+start c = c .before .before .before .before .before .before .before .before
 
 abbrev lent : tie.Start → Given
 lent c =
     let a = c .args in
-    given (a .p) (a .s) (a .n) (a .m) (a .t) (a .weights .now) (a .tables .now) (a .d .now)
+    given (a .p) (a .s) (a .n) (a .m) (a .t) (a .radices .now) (a .weights .now) (a .tables .now) (a .d .now)
 
 -- the call is admitted with that plan
 admitted : (c : tie.After-plan) → Admitted (lent (start c)) (Store (length (start c .args .store .now))) (c .plan .given .0 .0)
@@ -45,7 +45,9 @@ passing : (c : tie.Else1) →
 passing c = sym (sound (c .before)) ∙ not-false (c .before .is-reduced .result) (c .if1 .left)
 
 -- and the entry in range
-near : (c : tie.Else2) → start (c .before .before .before .before .before .before .before) .args .entry < entries (c .before .before .before .before .before .before .before .plan .given .0 .0)
+near : (c : tie.Else2) →
+    let a = start (c .before .before .before .before .before .before .before) .args in
+    a .entry < product (a .radices .now)
 near c = rw (c .before .entries .ensures) at (c .if2 .left)
 
 admit-requires : tie.Need-admit-requires
@@ -78,7 +80,7 @@ returns c =
 entries-requires : tie.Need-entries-requires
 entries-requires c κs =
     let r = c .before .before .before .before .before in
-    admitted r .within
+    admitted r .lent .radices
 
 same-length-2 : tie.Need-same-length-2
 same-length-2 c = search needs
@@ -108,7 +110,7 @@ file-entry-requires : tie.Need-file-entry-requires
 file-entry-requires c κs =
     let tested = c .before .before .before .before .before in
     let a = admitted (tested .before .before .before .before .before) in
-    (a .within, (a .lent, (ready-of _ _ (a .within) (eqb-true _ _ (a .own-fits)) (passing tested), omega (arith, a .within .radix-high))))
+    (a .within, (a .lent, (ready-of _ _ (a .within) (eqb-true _ _ (a .own-fits)) (passing tested), omega (arith, a .within .value-high))))
 
 returns-4 : tie.Need-returns-4
 returns-4 c =
@@ -126,7 +128,7 @@ returns-5 c =
     let args = start r .args in
     let value = lt-ltb _ _ (c .before .before .before .before .if3 .left) in
     filed-call _ _ _ _ _ _ (c .before .before .file-entry .result) _
-    (ap (λ (P : Plan). lend P (args .weights .now) (args .tables .now) (args .d .now)) (a .same)) (eqb-true _ _ (a .own-fits))
+    (ap (λ (P : Plan). lend P (args .radices .now) (args .weights .now) (args .tables .now) (args .d .now)) (a .same)) (eqb-true _ _ (a .own-fits))
     (a .rest _ ∙ rw (passing (ranged .before .before), lt-ltb _ _ (near ranged), value))
     (c .before .before .file-entry .ensures .0) (c .before .before .file-entry .ensures .1)
 

@@ -15,12 +15,12 @@ use Rattle.store.proofs.calls.test.Statement.{statement}
 use Rattle.store.proofs.calls.test.Tie as tie
 
 abbrev start : tie.After-plan → tie.Start
-start c = c .before .before .before .before .before .before .before
+start c = c .before .before .before .before .before .before .before .before
 
 abbrev lent : tie.Start → Given
 lent c =
     let a = c .args in
-    given (a .p) (a .s) (a .n) (a .m) (a .t) (a .weights .now) (a .tables .now) (a .d .now)
+    given (a .p) (a .s) (a .n) (a .m) (a .t) (a .radices .now) (a .weights .now) (a .tables .now) (a .d .now)
 
 -- the call is admitted with that plan
 admitted : (c : tie.After-plan) → Admitted (lent (start c)) (Store (length (start c .args .store .now))) (c .plan .given .0 .0)
