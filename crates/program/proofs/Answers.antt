@@ -1,37 +1,44 @@
 -- What is known of a writing that is not refused, and what the writer leaves and hands back.
 --     writing-fits      where a writing's own causes are not met, the steps fit
---     digit-residues    digits below s are residues
+--     digit-residues    digits below their radices are residues
 --     written-refused, written-done, handed-refused, handed-done       what the writer leaves and hands back
 -- Assumes nothing.
 use mathlib.Core.Path.{_≡_, sym, ap, _∙_}
 use mathlib.Core.Bool.{true}
 use mathlib.Core.List.{List, []}
 use Prim.Native.Nat.{ℕ, _+_, _*_, _≤_, _<_}
+use native.Mathlib.Decide.{decLt}
 use native.Mathlib.Nat.{pos-of-ne-zero}
 use native.Mathlib.Omega.{arith}
+use lib.Dec.{ltb}
 use lib.ListN.{length, take, drop}
 use lib.Seq.{take-at}
-use borrow.Author.Tests.{ltb-false}
-use Rattle.lists.specs.Places.{placed}
+use borrow.Author.Tests.{ltb-true, ltb-false}
+use Rattle.lists.specs.Places.{at, placed}
+use Rattle.lists.proofs.Tests.{every-at}
+use Rattle.lists.proofs.Parts.{at-past}
 use Rattle.field.specs.Residues.{Residues}
-use Rattle.field.specs.Rows.{allBelow}
-use Rattle.field.proofs.Ranges.{residues-of}
 use Rattle.plan.specs.Causes.{first}
-use Rattle.plan.specs.Numbers.{Within}
-use Rattle.plan.specs.Parts.{Given}
+use Rattle.plan.specs.Numbers.{Within, Radices}
 use Rattle.plan.specs.declared.numbers.Plan.{Plan}
+use Rattle.plan.proofs.Bounds.{prime-low}
+use Rattle.plan.proofs.Radix.{radices-at}
 use Rattle.plan.proofs.Refusals.{none-met, result-refused}
 use Rattle.program.specs.Layout.{layout, stepCount}
-use Rattle.program.specs.Calls.{writeOwn, written, handed}
+use Rattle.program.specs.Calls.{writingCauses, digitsFit, written, handed}
 use Rattle.program.proofs.Shape.{layout-length}
 
-pub writing-fits : (β : List ℕ) (room : ℕ) (G : Given) → first (writeOwn β room G) ≡ 0 → 4 * stepCount (G .numbers) ≤ room
-writing-fits β room G e = ltb-false room (4 * stepCount (G .numbers)) (none-met (writeOwn β room G) (omega arith) e .1 .0)
+pub writing-fits : (P : Plan) (β : List ℕ) (room : ℕ) → first (writingCauses P β room) ≡ 0 → 4 * stepCount P ≤ room
+writing-fits P β room e = ltb-false room (4 * stepCount P) (none-met (writingCauses P β room) (omega arith) e .1 .0)
 
-pub digit-residues : (P : Plan) (digits : List ℕ) → Within P → allBelow (P .s) digits ≡ true → Residues (P .p) digits
-digit-residues P digits within h i =
-    let pos : 0 < P .s = omega (arith, within .radix-low) in
-    omega (arith, residues-of (P .s) digits pos h i, within .radix-high)
+pub digit-residues : (P : Plan) (R digits : List ℕ) → Within P → Radices P R → length digits ≡ P .n → digitsFit R digits ≡ true → Residues (P .p) digits
+unfolding digitsFit
+digit-residues P R digits within radices size h i = elim (decLt i (length digits)) [
+  | yes l ↦
+      let below = ltb-true (at digits i) (at R i) (every-at (λ j. ltb (at digits j) (at R j)) (length digits) h i l) in
+      omega (arith, below, radices-at (P .p) R (radices .fit) i (omega (arith, radices .count)) .1)
+  | no l ↦ rw (at-past digits i (omega arith)) (omega (arith, prime-low within))
+]
 
 module _ (P : Plan) (w d β : List ℕ) where
   pub written-refused : (k : ℕ) (steps : List ℕ) → 0 < k → steps ≡ written k P w d β steps

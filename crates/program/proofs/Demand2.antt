@@ -35,7 +35,7 @@ use Rattle.program.proofs.Pieces.{Goes, goes-then, goes-to, goes-joined
 use Rattle.program.proofs.Effects.{assigned-same, assigned-other, assigned-twice, goes-clear, goes-add, goes-boot, goes-adds, goes-sum, goes-pair}
 
 pub digits-length : (G : Given) (i : ℕ) → length (digits G i) ≡ G .numbers .n
-digits-length G i = tab-length (G .numbers .n) (digit (G .numbers) i)
+digits-length G i = tab-length (G .numbers .n) (digit (G .radices) i)
 
 -- the three kinds of tables
 pub table-link : (P : Plan) (T : List ℕ) (k z : ℕ) → k < P .m → tableAt P T k z ≡ at T (k * P .p + z)

@@ -3,7 +3,7 @@
 // A host or a program calls `check_writing`, `write` and `run`, which take any numbers and lists; `write` hands back a part of the
 // lent slice, and `write_into` says what the whole slice holds. Crates above call `put_program`, which takes a checked plan, and
 // `step_count`. Stands on `plan`, `field` and `lists`. Renders 01, "The written program", "Running it" and, of "Turned down", causes 10
-// to 12; and Algorithms 1 to 3 of 003. Demand 2 is in proofs/.
+// to 12; 02, C-11; and Algorithms 1 to 3 of 003. Demand 2 is in proofs/.
 mod calls;
 mod running;
 mod writing;

@@ -9,7 +9,7 @@ ghost use Rattle.field.specs.Residues.{Modulus, Residues, inverse, square};
 ghost use Rattle.plan.specs.Causes.{gives};
 ghost use Rattle.plan.specs.Numbers.{Within};
 ghost use Rattle.program.specs.Steps as specs;
-ghost use Rattle.program.specs.Calls.{answerOf};
+ghost use Rattle.program.specs.Calls.{digitsFit, answerOf};
 use plan::Plan;
 
 // What the run answers: y and the number of bootstraps carried out, or the number of the refusal.
@@ -61,6 +61,21 @@ pub fn well_formed(plan: Plan, steps: &[u16]) -> bool
             return false;
         }
         i += 1;
+    }
+    true
+}
+
+// Cause 12, digit after digit, each with its own radix.
+pub fn digits_fit(radices: &[u8], digits: &[u8]) -> bool
+    requires { ⌜ length (now radices) ≡ length (now digits) ⌝ }
+    ensures { λ r. ⌜ r ≡ digitsFit (now (radices .entry)) (now (digits .entry)) ⌝ }
+{
+    let mut j: usize = 0;
+    while j < digits.len() {
+        if radices[j] <= digits[j] {
+            return false;
+        }
+        j += 1;
     }
     true
 }

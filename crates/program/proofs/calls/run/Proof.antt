@@ -5,7 +5,6 @@ use mathlib.Core.List.{[], _∷_}
 use native.Mathlib.Omega.{arith}
 use lib.ListN.{length}
 use borrow.Author.Tests.{eqb-true, not-true, not-false}
-use Rattle.field.specs.Rows.{allBelow}
 use Rattle.plan.specs.Causes.{gives}
 use Rattle.plan.specs.Numbers.{answerOf}
 use Rattle.plan.specs.Parts.{given}
@@ -14,18 +13,19 @@ use Rattle.plan.specs.declared.admission.Own.the-variants.{Digits}
 use Rattle.plan.proofs.Refusals.{refused-answer, given-answer}
 use Rattle.plan.proofs.Admitting.{Admitted, admission, turned-away}
 use Rattle.program.specs.Steps.{wellFormed, output, bootstraps}
+use Rattle.program.specs.Calls.{digitsFit}
 use Rattle.program.proofs.Answers.{digit-residues}
 use borrow.Author.Needs.{needs}
 use Rattle.program.proofs.calls.run.Statement.{statement}
 use Rattle.program.proofs.calls.run.Tie as tie
 
 abbrev start : tie.After-plan → tie.Start
-start c = c .before .before .before .before .before .before .before .before
+start c = c .before .before .before .before .before .before .before .before .before
 
 -- the call is admitted with that plan
 admitted : (c : tie.After-plan) →
     let a = start c .args in
-    Admitted (given (a .p) (a .s) (a .n) (a .m) (a .t) (a .weights .now) (a .tables .now) (a .d .now)) (Digits (length (a .digits .now))) (c .plan .given .0 .0)
+    Admitted (given (a .p) (a .s) (a .n) (a .m) (a .t) (a .radices .now) (a .weights .now) (a .tables .now) (a .d .now)) (Digits (length (a .digits .now))) (c .plan .given .0 .0)
 admitted c = admission _ _ (sym (c .before .before .admit .ensures) ∙ ap answerOf (c .plan .given .1))
 
 admit-requires : tie.Need-admit-requires
@@ -41,8 +41,8 @@ enum-known-plan c = search needs
 good : (c : tie.Else1) → let r = c .before .before .before in wellFormed (r .plan .given .0 .0) (start r .args .steps .now) ≡ true
 good c = sym (c .before .well-formed .ensures) ∙ not-false _ (c .if1 .left)
 
-below : (c : tie.Else2) → let r = c .before .before .before .before .before in allBelow (r .plan .given .0 .0 .s) (start r .args .digits .now) ≡ true
-below c = sym (c .before .all-below .ensures) ∙ not-false _ (c .if2 .left)
+below : (c : tie.Else2) → let r = c .before .before .before .before .before in digitsFit (start r .args .radices .now) (start r .args .digits .now) ≡ true
+below c = sym (c .before .digits-fit .ensures) ∙ not-false _ (c .if2 .left)
 
 well-formed-requires : tie.Need-well-formed-requires
 well-formed-requires c κs = admitted (c .before) .within
@@ -51,20 +51,23 @@ returns : tie.Need-returns
 returns c =
     refused-answer 11 _ _ (sym (admitted (c .before .before .before) .rest _ ∙ rw (sym (c .before .well-formed .ensures) ∙ not-true _ (c .if1 .taken)))) (omega arith)
 
-all-below-requires : tie.Need-all-below-requires
-all-below-requires c κs = omega (arith, admitted (c .before .before .before) .within .radix-low)
+digits-fit-requires : tie.Need-digits-fit-requires
+digits-fit-requires c κs = let a = admitted (c .before .before .before) in a .lent .radices .count ∙ sym (eqb-true _ _ (a .own-fits))
 
 returns-2 : tie.Need-returns-2
 returns-2 c =
     let passed = c .before .before in
-    refused-answer 12 _ _ (sym (admitted (passed .before .before .before) .rest _ ∙ rw (good passed, sym (c .before .all-below .ensures) ∙ not-true _ (c .if2 .taken)))) (omega arith)
+    refused-answer 12 _ _ (sym (admitted (passed .before .before .before) .rest _ ∙ rw (good passed, sym (c .before .digits-fit .ensures) ∙ not-true _ (c .if2 .taken)))) (omega arith)
 
 run-steps-requires : tie.Need-run-steps-requires
 run-steps-requires c κs =
     let passed = c .before .before in
     let r = passed .before .before .before in
+    let P = r .plan .given .0 .0 in
+    let s = start r .args in
     let a = admitted r in
-    (a .within, ((a .lent .tables-length, a .lent .tables-residues), (good passed, (eqb-true _ _ (a .own-fits), digit-residues (r .plan .given .0 .0) (start r .args .digits .now) (a .within) (below c)))))
+    let size = eqb-true _ _ (a .own-fits) in
+    (a .within, ((a .lent .tables-length, a .lent .tables-residues), (good passed, (size, digit-residues P (s .radices .now) (s .digits .now) (a .within) (a .lent .radices) size (below c)))))
 
 returns-3 : tie.Need-returns-3
 returns-3 c =
@@ -90,7 +93,7 @@ run-spec =
     enum-known-plan
     well-formed-requires
     returns
-    all-below-requires
+    digits-fit-requires
     returns-2
     run-steps-requires
     returns-3

@@ -17,7 +17,7 @@ use Rattle.program.proofs.calls.write.Statement.{statement}
 use Rattle.program.proofs.calls.write.Tie as tie
 
 abbrev start : tie.After-write-into → tie.Start
-start c = c .before .before .before .before .before .before .before
+start c = c .before .before .before .before .before .before .before .before
 
 write-into-requires : tie.Need-write-into-requires
 write-into-requires c κs = search needs
@@ -34,20 +34,20 @@ abbrev called : tie.Else1 → tie.After-write-into
 called c = c .before .before .before
 
 abbrev lent : tie.Else1 → Given
-lent c = let a = start (called c) .args in given (a .p) (a .s) (a .n) (a .m) (a .t) (a .weights .now) (a .tables .now) (a .d .now)
+lent c = let a = start (called c) .args in given (a .p) (a .s) (a .n) (a .m) (a .t) (a .radices .now) (a .weights .now) (a .tables .now) (a .d .now)
 
 -- nothing was refused
 fine : (c : tie.Else1) → let a = start (called c) .args in Unrefused (lent c) (Row (length (a .beta .now))) (writeOwn (a .beta .now) (length (a .steps .now)))
 fine c = unrefused _ _ _ (sym (called c .write-into .ensures .0) ∙ c .if1 .left)
 
 fits : (c : tie.Else1) → 4 * stepCount (lent c .numbers) ≤ length (start (called c) .args .steps .now)
-fits c = let a = start (called c) .args in writing-fits (a .beta .now) (length (a .steps .now)) (lent c) (fine c .rest-none)
+fits c = let a = start (called c) .args in writing-fits (lent c .numbers) (a .beta .now) (length (a .steps .now)) (fine c .rest-none)
 
 cast-p : tie.Need-cast-p
 cast-p c = omega (arith, prime-high (fine c .within))
 
 cast-s : tie.Need-cast-s
-cast-s c = omega (arith, prime-high (fine c .within), fine c .within .radix-high)
+cast-s c = omega (arith, prime-high (fine c .within), fine c .within .value-high)
 
 step-count-requires : tie.Need-step-count-requires
 step-count-requires c κs = fine c .within
@@ -58,7 +58,7 @@ mul-end c = omega (arith, c .step-count .ensures, step-limit (lent (c .before) .
 slice-aggregate-result-2 : tie.Need-slice-aggregate-result-2
 slice-aggregate-result-2 c =
     let write-into = c .before .before .before .before .before .write-into in
-    sym (length-take-le _ _ (omega (arith, c .before .step-count .ensures, fits (c .before .before), write-into .kept .1 .1 .1 .1 .1 .1 .1 .1 .1 .0)))
+    sym (length-take-le _ _ (omega (arith, c .before .step-count .ensures, fits (c .before .before), write-into .kept .1 .1 .1 .1 .1 .1 .1 .1 .1 .1 .0)))
 
 returns-2 : tie.Need-returns-2
 returns-2 c =

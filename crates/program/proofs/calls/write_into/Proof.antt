@@ -6,7 +6,7 @@ use native.Mathlib.Omega.{arith}
 use lib.ListN.{length}
 use borrow.Author.Tests.{eqb-true}
 use Rattle.plan.specs.Numbers.{answerOf}
-use Rattle.plan.specs.Parts.{given, lend}
+use Rattle.plan.specs.Parts.{given}
 use Rattle.plan.specs.declared.admission.Own.the-variants.{Row}
 use Rattle.plan.proofs.Admitting.{Admitted, admission, turned-away}
 use Rattle.program.proofs.Answers.{writing-fits, written-refused, written-done}
@@ -16,12 +16,12 @@ use Rattle.program.proofs.calls.write_into.Statement.{statement}
 use Rattle.program.proofs.calls.write_into.Tie as tie
 
 abbrev start : tie.After-plan → tie.Start
-start c = c .before .before .before .before .before .before .before .before
+start c = c .before .before .before .before .before .before .before .before .before
 
 -- the call is admitted with that plan
 admitted : (c : tie.After-plan) →
     let a = start c .args in
-    Admitted (given (a .p) (a .s) (a .n) (a .m) (a .t) (a .weights .now) (a .tables .now) (a .d .now)) (Row (length (a .beta .now))) (c .plan .given .0 .0)
+    Admitted (given (a .p) (a .s) (a .n) (a .m) (a .t) (a .radices .now) (a .weights .now) (a .tables .now) (a .d .now)) (Row (length (a .beta .now))) (c .plan .given .0 .0)
 admitted c = admission _ _ (sym (c .before .before .admit .ensures) ∙ ap answerOf (c .plan .given .1))
 
 admit-requires : tie.Need-admit-requires
@@ -48,7 +48,7 @@ put-program-requires c κs =
     let s = start r .args in
     let P = r .plan .given .0 .0 in
     let a = admitted r in
-    let fits = writing-fits (s .beta .now) (length (s .steps .now)) (lend P (s .weights .now) (s .tables .now) (s .d .now)) (sym (test .writing-refusal .ensures) ∙ c .before .if1 .left) in
+    let fits = writing-fits P (s .beta .now) (length (s .steps .now)) (sym (test .writing-refusal .ensures) ∙ c .before .if1 .left) in
     (a .within, (a .lent .weights-length, ((a .lent .products-length, eqb-true _ _ (a .own-fits)), omega (arith, fits, layout-length P (s .weights .now) (s .d .now) (s .beta .now)))))
 
 returns-2 : tie.Need-returns-2
