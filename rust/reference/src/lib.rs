@@ -1,4 +1,5 @@
-//! A naive twin of the table library: document 01 in plain Rust.
+//! A naive twin of the table library: document 01, with the requests of 02 that
+//! have landed (C-11), in plain Rust.
 //!
 //! It is written from the papers alone and shares no line with the library.
 //! Tests and benchmarks compare the two, so every function here takes the
@@ -19,9 +20,9 @@
 //! | [`filing_program`] | standard input | standard output | 1 2 3 5 7 8 9 13 14 |
 //!
 //! Every call but the last takes the numbers `p s n m t`, then the plan's
-//! parts `weights tables d`, then its own parts. Any number may be lent, up to
-//! 2^64 - 1. A number answered is 0 where the call accepts. A refused call
-//! leaves every lent slice as it was.
+//! parts `radices weights tables d`, then its own parts. Any number may be
+//! lent, up to 2^64 - 1. A number answered is 0 where the call accepts. A
+//! refused call leaves every lent slice as it was.
 
 // Entry points take the plan's numbers and parts one by one, as the library's do.
 #![allow(clippy::too_many_arguments)]

@@ -11,13 +11,14 @@ pub fn worst_norm(
     n: u64,
     m: u64,
     t: u64,
+    radices: &[u8],
     weights: &[u8],
     tables: &[u8],
     d: &[u8],
     beta: &[u8],
 ) -> Result<u64, u32> {
     let own = [(Part::Beta, beta.len())];
-    let plan = accept(p, s, n, m, t, weights, tables, d, &own, beta)?;
+    let plan = accept(p, s, n, m, t, radices, weights, tables, d, &own, beta)?;
     let link_rows = (0..plan.m).map(|k| plan.link_weights(k));
     let d_rows = (0..plan.t).map(|b| plan.d_row(b));
     let beta_rows = beta.chunks(plan.variables());

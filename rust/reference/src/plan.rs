@@ -1,5 +1,6 @@
 //! Document 01, "The plan", and of "Turned down" the causes 1 to 5, which
-//! every call tests first and in this order.
+//! every call tests first and in this order; with document 02, C-11: a radix
+//! for each digit.
 
 use crate::field::is_odd_prime;
 
@@ -9,10 +10,12 @@ use crate::field::is_odd_prime;
 /// numbers and parts and check them anew on each call.
 pub struct Plan<'a> {
     pub(crate) p: usize,
+    /// 02, C-11: "The header's s bounds table values only."
     pub(crate) s: usize,
     pub(crate) n: usize,
     pub(crate) m: usize,
     pub(crate) t: usize,
+    pub(crate) radices: &'a [u8],
     pub(crate) weights: &'a [u8],
     pub(crate) tables: &'a [u8],
     pub(crate) d: &'a [u8],
@@ -38,7 +41,8 @@ impl Plan<'_> {
     pub const PRODUCTS: u64 = 32;
     /// C, which is t+1 times L, is at most this.
     pub const COLUMNS: u64 = 1_024;
-    /// s^n is at most this.
+    /// The product of the radices, which takes the place of s^n (02, C-11), is
+    /// at most this.
     pub const ENTRIES: u64 = 4_096;
 
     /// L, the number of variables: the digits and the links.
@@ -51,9 +55,9 @@ impl Plan<'_> {
         (self.t + 1) * self.variables()
     }
 
-    /// s^n, the number of entries.
+    /// The number of entries: the product of the radices (02, C-11).
     pub(crate) fn entries(&self) -> usize {
-        self.s.pow(self.n as u32)
+        self.radices.iter().map(|&radix| radix as usize).product()
     }
 
     /// The weights of link k, one for each variable before it.
@@ -83,28 +87,34 @@ impl Plan<'_> {
     }
 }
 
-/// Causes 1 to 3: what the five numbers alone can be refused for, or 0.
-pub(crate) fn numbers_cause(p: u64, s: u64, n: u64, m: u64, t: u64) -> u32 {
+/// Causes 1 to 3: what the five numbers and the radices can be refused for, or
+/// 0.
+///
+/// 02, C-11: "Cause 2 also covers a bad radix, cause 3 the product, both as
+/// lent", which is: of all the radices here, be they n or not. Where there are
+/// none, none is bad, and their product is 1.
+pub(crate) fn numbers_cause(p: u64, s: u64, n: u64, m: u64, t: u64, radices: &[u64]) -> u32 {
     if !is_odd_prime(p) {
         return 1;
     }
-    if s < 2 || s > p {
+    let in_range = |number: &u64| (2..=p).contains(number);
+    if !in_range(&s) || !radices.iter().all(in_range) {
         return 2;
     }
     let l = n as u128 + m as u128;
     if n < 1 || l > Plan::VARIABLES as u128 || t > Plan::PRODUCTS {
         return 3;
     }
-    // Here n and m are at most 64, t at most 32 and s at most 251.
+    // Here n and m are at most 64, and t at most 32.
     if (t + 1) * (n + m) > Plan::COLUMNS {
         return 3;
     }
-    let mut entries = 1;
-    for _ in 0..n {
-        entries *= s;
-        if entries > Plan::ENTRIES {
-            return 3;
-        }
+    // Here no radix is 0, so that a product above 2^64 - 1 may stay there.
+    let product = radices
+        .iter()
+        .fold(1, |all: u64, &radix| all.saturating_mul(radix));
+    if product > Plan::ENTRIES {
+        return 3;
     }
     0
 }
@@ -119,13 +129,15 @@ pub(crate) fn accept<'a>(
     n: u64,
     m: u64,
     t: u64,
+    radices: &'a [u8],
     weights: &'a [u8],
     tables: &'a [u8],
     d: &'a [u8],
     own: &[(Part, usize)],
     beta: &[u8],
 ) -> Result<Plan<'a>, u32> {
-    let number = numbers_cause(p, s, n, m, t);
+    let wide: Vec<u64> = radices.iter().map(|&radix| radix as u64).collect();
+    let number = numbers_cause(p, s, n, m, t, &wide);
     if number != 0 {
         return Err(number);
     }
@@ -136,14 +148,17 @@ pub(crate) fn accept<'a>(
         n,
         m,
         t,
+        radices,
         weights,
         tables,
         d,
     };
 
     let weight_count: usize = (0..m).map(|k| n + k).sum();
-    let plan_parts_fit =
-        weights.len() == weight_count && tables.len() == m * p && d.len() == t * (n + m);
+    let plan_parts_fit = radices.len() == n
+        && weights.len() == weight_count
+        && tables.len() == m * p
+        && d.len() == t * (n + m);
     let own_parts_fit = own.iter().all(|(part, lent)| *lent == plan.length(part));
     if !plan_parts_fit || !own_parts_fit {
         return Err(4);
@@ -163,11 +178,12 @@ pub fn check_plan(
     n: u64,
     m: u64,
     t: u64,
+    radices: &[u8],
     weights: &[u8],
     tables: &[u8],
     d: &[u8],
 ) -> u32 {
-    match accept(p, s, n, m, t, weights, tables, d, &[], &[]) {
+    match accept(p, s, n, m, t, radices, weights, tables, d, &[], &[]) {
         Ok(_) => 0,
         Err(number) => number,
     }

@@ -1,4 +1,5 @@
-//! Document 01, "The written program" and "Running it".
+//! Document 01, "The written program" and "Running it"; cause 12 by document
+//! 02, C-11.
 
 use crate::field::inverse;
 use crate::plan::{accept, Part, Plan};
@@ -111,6 +112,7 @@ fn accept_writing<'a>(
     n: u64,
     m: u64,
     t: u64,
+    radices: &'a [u8],
     weights: &'a [u8],
     tables: &'a [u8],
     d: &'a [u8],
@@ -118,7 +120,7 @@ fn accept_writing<'a>(
     room: usize,
 ) -> Result<Plan<'a>, u32> {
     let own = [(Part::Beta, beta.len())];
-    let plan = accept(p, s, n, m, t, weights, tables, d, &own, beta)?;
+    let plan = accept(p, s, n, m, t, radices, weights, tables, d, &own, beta)?;
     if room < 4 * step_count(plan.n, plan.m, plan.t) {
         return Err(10);
     }
@@ -134,13 +136,15 @@ pub fn check_writing(
     n: u64,
     m: u64,
     t: u64,
+    radices: &[u8],
     weights: &[u8],
     tables: &[u8],
     d: &[u8],
     beta: &[u8],
     steps: &[u16],
 ) -> u32 {
-    match accept_writing(p, s, n, m, t, weights, tables, d, beta, steps.len()) {
+    let room = steps.len();
+    match accept_writing(p, s, n, m, t, radices, weights, tables, d, beta, room) {
         Ok(_) => 0,
         Err(number) => number,
     }
@@ -156,13 +160,15 @@ pub fn write<'a>(
     n: u64,
     m: u64,
     t: u64,
+    radices: &[u8],
     weights: &[u8],
     tables: &[u8],
     d: &[u8],
     beta: &[u8],
     steps: &'a mut [u16],
 ) -> &'a mut [u16] {
-    match accept_writing(p, s, n, m, t, weights, tables, d, beta, steps.len()) {
+    let room = steps.len();
+    match accept_writing(p, s, n, m, t, radices, weights, tables, d, beta, room) {
         Ok(plan) => {
             let written = steps_of(&plan, beta).concat();
             let filled = &mut steps[..written.len()];
@@ -183,6 +189,7 @@ pub fn run(
     n: u64,
     m: u64,
     t: u64,
+    radices: &[u8],
     weights: &[u8],
     tables: &[u8],
     d: &[u8],
@@ -190,11 +197,13 @@ pub fn run(
     digits: &[u8],
 ) -> Result<Ran, u32> {
     let own = [(Part::Digits, digits.len())];
-    let plan = accept(p, s, n, m, t, weights, tables, d, &own, &[])?;
+    let plan = accept(p, s, n, m, t, radices, weights, tables, d, &own, &[])?;
     if !well_formed(&plan, steps) {
         return Err(11);
     }
-    if digits.iter().any(|&digit| digit as usize >= plan.s) {
+    // 02, C-11: "cause 12 compares each digit with its own radix".
+    let too_large = |(digit, radix): (&u8, &u8)| digit >= radix;
+    if digits.iter().zip(radices).any(too_large) {
         return Err(12);
     }
     let mut registers = vec![0; plan.variables() + 5];

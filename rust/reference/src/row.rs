@@ -1,14 +1,16 @@
-//! Document 01, "From entry to row".
+//! Document 01, "From entry to row", with the radices of document 02, C-11.
 
 use crate::plan::{accept, Part, Plan};
 
-/// The n digits of an entry in radix s, the most significant first.
+/// The n digits of an entry, the most significant first. 02, C-11: "Splitting
+/// an entry number into digits follows" the radices, "x_0 still the most
+/// significant".
 pub(crate) fn digits(plan: &Plan, entry: usize) -> Vec<usize> {
     let mut rest = entry;
     let mut digits = vec![0; plan.n];
-    for digit in digits.iter_mut().rev() {
-        *digit = rest % plan.s;
-        rest /= plan.s;
+    for (digit, &radix) in digits.iter_mut().zip(plan.radices).rev() {
+        *digit = rest % radix as usize;
+        rest /= radix as usize;
     }
     digits
 }
@@ -52,6 +54,7 @@ pub fn row(
     n: u64,
     m: u64,
     t: u64,
+    radices: &[u8],
     weights: &[u8],
     tables: &[u8],
     d: &[u8],
@@ -59,7 +62,7 @@ pub fn row(
     row: &mut [u8],
 ) -> u32 {
     let own = [(Part::Row, row.len())];
-    let plan = match accept(p, s, n, m, t, weights, tables, d, &own, &[]) {
+    let plan = match accept(p, s, n, m, t, radices, weights, tables, d, &own, &[]) {
         Ok(plan) => plan,
         Err(number) => return number,
     };

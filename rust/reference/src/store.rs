@@ -85,13 +85,14 @@ pub fn test_store(
     n: u64,
     m: u64,
     t: u64,
+    radices: &[u8],
     weights: &[u8],
     tables: &[u8],
     d: &[u8],
     store: &[u8],
 ) -> u32 {
     let own = [(Part::Store, store.len())];
-    let plan = match accept(p, s, n, m, t, weights, tables, d, &own, &[]) {
+    let plan = match accept(p, s, n, m, t, radices, weights, tables, d, &own, &[]) {
         Ok(plan) => plan,
         Err(number) => return number,
     };
@@ -111,6 +112,7 @@ pub fn file(
     n: u64,
     m: u64,
     t: u64,
+    radices: &[u8],
     weights: &[u8],
     tables: &[u8],
     d: &[u8],
@@ -119,7 +121,7 @@ pub fn file(
     value: u64,
 ) -> Filed {
     let own = [(Part::Store, store.len())];
-    let plan = match accept(p, s, n, m, t, weights, tables, d, &own, &[]) {
+    let plan = match accept(p, s, n, m, t, radices, weights, tables, d, &own, &[]) {
         Ok(plan) => plan,
         Err(number) => return Filed::Refused(number),
     };
@@ -153,6 +155,7 @@ pub fn coefficients(
     n: u64,
     m: u64,
     t: u64,
+    radices: &[u8],
     weights: &[u8],
     tables: &[u8],
     d: &[u8],
@@ -160,7 +163,7 @@ pub fn coefficients(
     beta: &mut [u8],
 ) -> u32 {
     let own = [(Part::Store, store.len()), (Part::Beta, beta.len())];
-    let plan = match accept(p, s, n, m, t, weights, tables, d, &own, &[]) {
+    let plan = match accept(p, s, n, m, t, radices, weights, tables, d, &own, &[]) {
         Ok(plan) => plan,
         Err(number) => return number,
     };

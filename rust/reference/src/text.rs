@@ -1,5 +1,5 @@
-//! Document 01, "The filing program": from the bytes of standard input to the
-//! bytes of standard output.
+//! Document 01, "The filing program", with the radices line of document 02,
+//! C-11: from the bytes of standard input to the bytes of standard output.
 
 use crate::norm::worst_norm;
 use crate::plan::numbers_cause;
@@ -101,7 +101,9 @@ fn listing(text: &[u8]) -> Result<String, Refusal> {
     lines.names("p s n links products")?;
     let values = lines.numbers(5)?;
     let (p, s, n, m, t) = (values[0], values[1], values[2], values[3], values[4]);
-    let cause = numbers_cause(p, s, n, m, t);
+    // 02, C-11: "In text the values line is tested whole before the radices line
+    // is read", so here no radix is known yet.
+    let cause = numbers_cause(p, s, n, m, t, &[]);
     if cause != 0 {
         return Err(lines.refusal(cause));
     }
@@ -109,6 +111,16 @@ fn listing(text: &[u8]) -> Result<String, Refusal> {
     if columns > COLUMNS {
         return Err(lines.refusal(14));
     }
+
+    // 02, C-11: "After the values line a plan has a line of n radices, each 2 to
+    // p." They are tested as read, before they are bytes; the five numbers have
+    // passed, so that only the radices can be refused here.
+    let radices = lines.numbers(n as usize)?;
+    let cause = numbers_cause(p, s, n, m, t, &radices);
+    if cause != 0 {
+        return Err(lines.refusal(cause));
+    }
+    let radices: Vec<u8> = radices.into_iter().map(|radix| radix as u8).collect();
 
     let (mut weights, mut tables, mut d) = (Vec::new(), Vec::new(), Vec::new());
     for k in 0..m {
@@ -125,7 +137,7 @@ fn listing(text: &[u8]) -> Result<String, Refusal> {
         let pair = lines.numbers(2)?;
         let (entry, value) = (pair[0], pair[1]);
         let answer = file(
-            p, s, n, m, t, &weights, &tables, &d, &mut store, entry, value,
+            p, s, n, m, t, &radices, &weights, &tables, &d, &mut store, entry, value,
         );
         if let Filed::Refused(number) = answer {
             return Err(lines.refusal(number));
@@ -133,12 +145,16 @@ fn listing(text: &[u8]) -> Result<String, Refusal> {
     }
 
     let mut beta = vec![0; columns as usize];
-    let read_off = coefficients(p, s, n, m, t, &weights, &tables, &d, &store, &mut beta);
+    let read_off = coefficients(
+        p, s, n, m, t, &radices, &weights, &tables, &d, &store, &mut beta,
+    );
     assert_eq!(read_off, 0);
-    let worst = worst_norm(p, s, n, m, t, &weights, &tables, &d, &beta);
+    let worst = worst_norm(p, s, n, m, t, &radices, &weights, &tables, &d, &beta);
     let worst = worst.expect("an accepted plan has a worst norm");
     let mut slice = vec![0; 4 * step_count(n as usize, m as usize, t as usize)];
-    let steps = write(p, s, n, m, t, &weights, &tables, &d, &beta, &mut slice);
+    let steps = write(
+        p, s, n, m, t, &radices, &weights, &tables, &d, &beta, &mut slice,
+    );
 
     let bootstraps = m + 2 * t;
     let mut out = format!(

@@ -1,5 +1,6 @@
 //! Filing against brute force: for tiny plans with p = 3 every β is
-//! enumerated, and a filing is refused exactly when none fits.
+//! enumerated, and a filing is refused exactly when none fits. About half of
+//! the random plans have a radix of its own for each digit.
 
 mod common;
 use common::{Owned, Random};
@@ -154,6 +155,43 @@ fn every_table_of_two_bits_under_every_d() {
 }
 
 #[test]
+fn every_table_of_a_digit_and_a_bit_under_every_d() {
+    for radices in [[3, 2], [2, 3]] {
+        for d in 0..9 {
+            let plan = Owned {
+                d: vec![d / 3, d % 3],
+                ..Owned::mixed(3, 2, &radices, 0, 1)
+            };
+            assert_eq!(plan.entries(), 6);
+            for table in 0..64 {
+                let list: Vec<(u64, u64)> = (0..6).map(|i| (i, table >> i & 1)).collect();
+                check_list(&plan, &list);
+            }
+        }
+    }
+}
+
+#[test]
+fn every_choice_of_radices_with_random_tables() {
+    // s and the radices have nothing to do with each other.
+    let mut random = Random::new(5);
+    for n in 1..=3 {
+        for choice in 0..1 << n {
+            let radices: Vec<u8> = (0..n).map(|j| 2 + (choice >> j & 1)).collect();
+            for s in [2, 3] {
+                for (m, t) in [(0, 1), (1, 0), (2, 0)] {
+                    let mut plan = Owned::random(&mut random, 3, s, n, m, t);
+                    plan.radices = radices.clone();
+                    let list: Vec<(u64, u64)> =
+                        (0..plan.entries()).map(|i| (i, random.below(s))).collect();
+                    check_list(&plan, &list);
+                }
+            }
+        }
+    }
+}
+
+#[test]
 fn larger_random_plans_reproduce_what_they_keep() {
     // Too large for every β; the run still has to give back what was kept.
     let mut random = Random::new(2);
@@ -164,7 +202,7 @@ fn larger_random_plans_reproduce_what_they_keep() {
         (251, 3, 3, 5, 3),
         (3, 2, 5, 4, 3),
     ] {
-        for _ in 0..5 {
+        for _ in 0..8 {
             let plan = Owned::random(&mut random, p, s, n, m, t);
             let mut store = plan.empty_store();
             let mut kept = Vec::new();

@@ -1,4 +1,5 @@
-//! Document 01, "Cases" and "Ways to misread 003".
+//! Document 01, "Cases" and "Ways to misread 003". Where a plan has one s for all
+//! its digits, its radices are n times s; other radices are in tests/radices.rs.
 
 mod common;
 use common::{call, Owned};
@@ -34,6 +35,7 @@ fn one_link() {
         n: 1,
         m: 1,
         t: 0,
+        radices: vec![2],
         weights,
         tables,
         d: vec![],
@@ -94,14 +96,14 @@ fn two_times_three_gives_1_modulo_5() {
 }
 
 #[test]
-fn primes_and_radices() {
+fn primes_and_values() {
     for p in [2, 9, 253] {
         assert_eq!(Owned::zeros(p, 2, 1, 0, 0).check(), 1);
     }
     assert_eq!(Owned::zeros(251, 2, 1, 0, 0).check(), 0);
-    assert_eq!(Owned::zeros(251, 251, 1, 0, 0).check(), 0);
-    assert_eq!(Owned::zeros(251, 252, 1, 0, 0).check(), 2);
-    assert_eq!(Owned::zeros(251, 1, 1, 0, 0).check(), 2);
+    for (s, number) in [(0, 2), (1, 2), (2, 0), (251, 0), (252, 2), (258, 2)] {
+        assert_eq!(Owned::mixed(251, s, &[2], 0, 0).check(), number, "s = {s}");
+    }
 }
 
 #[test]

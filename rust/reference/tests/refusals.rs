@@ -193,6 +193,7 @@ fn worst_norm_in_order() {
 fn every_part_in_another_length_is_4_and_every_large_byte_5() {
     let good = Broken::new().good;
     type Part = fn(&mut Owned) -> &mut Vec<u8>;
+    // Of the radices in tests/radices.rs.
     let parts: [Part; 3] = [
         |plan| &mut plan.weights,
         |plan| &mut plan.tables,
@@ -316,22 +317,24 @@ fn any_number_may_be_lent() {
                 for m in numbers {
                     for t in numbers {
                         let prime = [3, 31, 251].contains(&p);
-                        let radix = 2 <= s && s <= p;
                         let l = n as u128 + m as u128;
                         let c = l.saturating_mul(t as u128 + 1);
-                        let power = u32::try_from(n).ok().and_then(|n| s.checked_pow(n));
-                        let entries = power.is_some_and(|power| power <= 4_096);
-                        let small = n >= 1 && l <= 64 && t <= 32 && c <= 1_024 && entries;
-                        // No part at all is lent, so an accepted plan has no links.
-                        let expected = match (prime, radix, small) {
-                            (false, _, _) => 1,
-                            (_, false, _) => 2,
-                            (_, _, false) => 3,
-                            _ if m != 0 || t != 0 => 4,
-                            _ => 0,
-                        };
-                        let got = reference::check_plan(p, s, n, m, t, &[], &[], &[]);
-                        assert_eq!(got, expected, "{p} {s} {n} {m} {t}");
+                        let small = n >= 1 && l <= 64 && t <= 32 && c <= 1_024;
+                        for (radices, product) in [(&[][..], 1), (&[2], 2), (&[30; 3], 27_000)] {
+                            let two_to_p = |number: u64| 2 <= number && number <= p;
+                            let radix = radices.iter().all(|&radix| two_to_p(radix as u64));
+                            // No part but the radices is lent, so an accepted plan has no links.
+                            let fits = n == radices.len() as u64 && m == 0 && t == 0;
+                            let expected = match (prime, two_to_p(s) && radix, fits) {
+                                (false, _, _) => 1,
+                                (_, false, _) => 2,
+                                _ if !small || product > 4_096 => 3,
+                                (_, _, false) => 4,
+                                _ => 0,
+                            };
+                            let got = reference::check_plan(p, s, n, m, t, radices, &[], &[], &[]);
+                            assert_eq!(got, expected, "{p} {s} {n} {m} {t} {radices:?}");
+                        }
                     }
                 }
             }

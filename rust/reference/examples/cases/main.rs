@@ -13,6 +13,7 @@ use std::fmt::Display;
 #[derive(Default)]
 struct Cases {
     plan: [u64; 5],
+    radices: Vec<u8>,
     weights: Vec<u8>,
     tables: Vec<u8>,
     d: Vec<u8>,
@@ -29,7 +30,8 @@ struct Cases {
 macro_rules! call {
     ($f:ident, $cases:expr $(, $own:expr)*) => {{
         let [p, s, n, m, t] = $cases.plan;
-        reference::$f(p, s, n, m, t, &$cases.weights, &$cases.tables, &$cases.d $(, $own)*)
+        let (radices, weights) = (&$cases.radices, &$cases.weights);
+        reference::$f(p, s, n, m, t, radices, weights, &$cases.tables, &$cases.d $(, $own)*)
     }};
 }
 
@@ -95,6 +97,7 @@ impl Cases {
         let bytes = || numbers.iter().map(|number| *number as u8).collect();
         match (word, numbers) {
             ("plan", _) => self.plan = numbers.try_into().ok()?,
+            ("radices", _) => self.radices = bytes(),
             ("weights", _) => self.weights = bytes(),
             ("tables", _) => self.tables = bytes(),
             ("d", _) => self.d = bytes(),

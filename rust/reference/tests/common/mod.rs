@@ -13,6 +13,7 @@ pub struct Owned {
     pub n: u64,
     pub m: u64,
     pub t: u64,
+    pub radices: Vec<u8>,
     pub weights: Vec<u8>,
     pub tables: Vec<u8>,
     pub d: Vec<u8>,
@@ -24,7 +25,7 @@ macro_rules! call {
     ($f:ident, $plan:expr $(, $own:expr)*) => {
         reference::$f(
             $plan.p, $plan.s, $plan.n, $plan.m, $plan.t,
-            &$plan.weights, &$plan.tables, &$plan.d $(, $own)*
+            &$plan.radices, &$plan.weights, &$plan.tables, &$plan.d $(, $own)*
         )
     };
 }
@@ -40,14 +41,22 @@ impl Owned {
             n: 2,
             m: 0,
             t: 1,
+            radices: vec![2, 2],
             weights: vec![],
             tables: vec![],
             d: vec![1, 1],
         }
     }
 
-    /// A plan of this shape with parts of the right lengths, all zeros.
+    /// A plan of this shape with n radices of s, and its other parts of the
+    /// right lengths, all zeros.
     pub fn zeros(p: u64, s: u64, n: u64, m: u64, t: u64) -> Owned {
+        Owned::mixed(p, s, &vec![s as u8; n as usize], m, t)
+    }
+
+    /// The same with these radices, as many as n is.
+    pub fn mixed(p: u64, s: u64, radices: &[u8], m: u64, t: u64) -> Owned {
+        let n = radices.len() as u64;
         let weights = vec![0; (m * n + m * m.saturating_sub(1) / 2) as usize];
         let tables = vec![0; (m * p) as usize];
         let d = vec![0; (t * (n + m)) as usize];
@@ -57,15 +66,20 @@ impl Owned {
             n,
             m,
             t,
+            radices: radices.to_vec(),
             weights,
             tables,
             d,
         }
     }
 
-    /// A plan of this shape with random parts.
+    /// A plan of this shape with random parts. About half of the plans have n
+    /// radices of s; in the others each radix is drawn for itself.
     pub fn random(random: &mut Random, p: u64, s: u64, n: u64, m: u64, t: u64) -> Owned {
         let mut plan = Owned::zeros(p, s, n, m, t);
+        if random.below(2) == 1 {
+            plan.radices = random.radices(p, n);
+        }
         for part in [&mut plan.weights, &mut plan.tables, &mut plan.d] {
             part.iter_mut().for_each(|x| *x = random.below(p) as u8);
         }
@@ -77,7 +91,7 @@ impl Owned {
     }
 
     pub fn entries(&self) -> u64 {
-        self.s.pow(self.n as u32)
+        self.radices.iter().map(|&radix| radix as u64).product()
     }
 
     pub fn empty_store(&self) -> Vec<u8> {
@@ -134,11 +148,15 @@ impl Owned {
         call!(worst_norm, self, beta)
     }
 
-    /// The digits of an entry, found without the reference: from the left, by
-    /// falling powers of s.
+    /// The digits of an entry, found without the reference: from the left, each
+    /// by the product of the radices behind it.
     pub fn digits(&self, entry: u64) -> Vec<u8> {
-        let powers = (0..self.n as u32).rev().map(|place| self.s.pow(place));
-        powers.map(|power| (entry / power % self.s) as u8).collect()
+        let digit = |j: usize| {
+            let behind = &self.radices[j + 1..];
+            let weight: u64 = behind.iter().map(|&radix| radix as u64).product();
+            (entry / weight % self.radices[j] as u64) as u8
+        };
+        (0..self.n as usize).map(digit).collect()
     }
 
     /// Equation 1 of 003 with its own nested sums, modulo p.
@@ -176,5 +194,21 @@ impl Random {
     /// A number below k; for tests the small bias does not matter.
     pub fn below(&mut self, k: u64) -> u64 {
         self.next() % k
+    }
+
+    /// So many radices from 2 to p with a product of at most 4,096, the large
+    /// ones anywhere; n is at most 12.
+    pub fn radices(&mut self, p: u64, n: u64) -> Vec<u8> {
+        let mut room = 4_096;
+        let mut radices = Vec::new();
+        for behind in (0..n as u32).rev() {
+            // Each radix behind needs at least a factor of 2.
+            let most = p.min(room >> behind);
+            let radix = 2 + self.below(most - 1);
+            room /= radix;
+            radices.push(radix as u8);
+        }
+        radices.rotate_left(self.below(n) as usize);
+        radices
     }
 }
