@@ -1,7 +1,9 @@
 //! The plan texts of examples/: each files its whole table, prints the listing
 //! kept beside it, and that listing, run on every input, gives the table.
 //!
-//! The tables come from their own definitions here, not from the texts.
+//! The tables come from their own definitions here, not from the texts. The
+//! texts of examples/refusals print what is kept beside them, too, and what the
+//! table there says.
 
 mod common;
 use common::Owned;
@@ -72,8 +74,13 @@ fn numbers(line: &str) -> Vec<u64> {
     line.split(' ').map(|word| word.parse().unwrap()).collect()
 }
 
-/// Checks one example: its shape p s n m t, and its table.
+/// Checks one example with n radices of s: its shape p s n m t, and its table.
 fn example(name: &str, shape: [u64; 5], table: impl Fn(u64) -> u64) {
+    mixed_example(name, shape, &vec![shape[1]; shape[2] as usize], table);
+}
+
+/// Checks one example: its shape p s n m t, its radices, and its table.
+fn mixed_example(name: &str, shape: [u64; 5], radices: &[u64], table: impl Fn(u64) -> u64) {
     let read =
         |ending: &str| std::fs::read_to_string(format!("{DIRECTORY}/{name}.{ending}")).unwrap();
     let (text, out) = (read("txt"), read("out"));
@@ -82,7 +89,10 @@ fn example(name: &str, shape: [u64; 5], table: impl Fn(u64) -> u64) {
     let mut lines = text.lines().skip(1);
     let [p, s, n, m, t] = shape;
     assert_eq!(numbers(lines.next().unwrap()), shape, "{name}");
-    let mut plan = Owned::zeros(p, s, n, m, t);
+    assert_eq!(numbers(lines.next().unwrap()), radices, "{name}");
+    let bytes = |part: &[u64]| part.iter().map(|&x| x as u8).collect::<Vec<u8>>();
+    let mut plan = Owned::mixed(p, s, &bytes(radices), m, t);
+    assert_eq!(plan.n, n);
     let (mut weights, mut tables, mut d) = (vec![], vec![], vec![]);
     for _ in 0..m {
         weights.extend(numbers(lines.next().unwrap()));
@@ -91,8 +101,7 @@ fn example(name: &str, shape: [u64; 5], table: impl Fn(u64) -> u64) {
     for _ in 0..t {
         d.extend(numbers(lines.next().unwrap()));
     }
-    let bytes = |part: Vec<u64>| part.into_iter().map(|x| x as u8).collect();
-    (plan.weights, plan.tables, plan.d) = (bytes(weights), bytes(tables), bytes(d));
+    (plan.weights, plan.tables, plan.d) = (bytes(&weights), bytes(&tables), bytes(&d));
     assert_eq!(plan.check(), 0, "{name}");
     assert!(plan.columns() <= 255, "{name}");
 
@@ -169,4 +178,50 @@ fn addition_of_two_digits() {
     let sum = |entry| entry / 16 + entry % 16;
     example("add4-sum", [31, 16, 2, 1, 0], |entry| sum(entry) % 16);
     example("add4-carry", [31, 16, 2, 1, 0], |entry| sum(entry) / 16);
+}
+
+/// The days of a month from 0 to 11 of the Gregorian calendar.
+fn days(month: u64, leap: bool) -> u64 {
+    match month + 1 {
+        4 | 6 | 9 | 11 => 30,
+        2 if leap => 29,
+        2 => 28,
+        _ => 31,
+    }
+}
+
+#[test]
+fn days_of_a_month() {
+    let year = |leap| (0..12).map(|month| days(month, leap)).sum::<u64>();
+    assert_eq!([year(false), year(true)], [365, 366]);
+    let table = |entry: u64| days(entry / 2, entry % 2 == 1) - 28;
+    mixed_example("month-days", [13, 4, 2, 2, 0], &[12, 2], table);
+}
+
+#[test]
+fn refusals_print_what_is_kept_and_what_their_table_says() {
+    let directory = format!("{DIRECTORY}/refusals");
+    let read = |file: &str| std::fs::read(format!("{directory}/{file}")).unwrap();
+    let readme = String::from_utf8(read("README.md")).unwrap();
+    let mut texts = 0;
+    for entry in std::fs::read_dir(&directory).unwrap() {
+        let file = entry.unwrap().file_name().into_string().unwrap();
+        let Some(name) = file.strip_suffix(".txt") else {
+            continue;
+        };
+        let out = filing_program(&read(&file));
+        assert_eq!(out, read(&format!("{name}.out")), "{name}");
+
+        let row = format!("| {name} | ");
+        let row = readme.lines().find(|line| line.starts_with(&row));
+        let said = row.and_then(|row| row.split(" | ").nth(2)).unwrap();
+        let out = String::from_utf8(out).unwrap();
+        match said.trim_end_matches(" |") {
+            "listing" => assert!(out.starts_with("bootstraps"), "{name}"),
+            refusal => assert_eq!(out, format!("refusal line\n{refusal}\n"), "{name}"),
+        }
+        texts += 1;
+    }
+    let rows = readme.lines().filter(|line| line.starts_with("| "));
+    assert_eq!(texts, rows.count() - 1);
 }
