@@ -102,14 +102,26 @@ pub fn worst_norm(
     n: usize,
     m: usize,
     t: usize,
+    radices: &[u8],
     weights: &[u8],
     tables: &[u8],
     d: &[u8],
     beta: &[u8],
 ) -> Normed
-    ensures { λ r. ⌜ specs.answerOf r ≡ specs.normAnswer (given p s n m t (now (weights .entry)) (now (tables .entry)) (now (d .entry))) (now (beta .entry)) ⌝ }
+    ensures { λ r. ⌜ specs.answerOf r ≡ specs.normAnswer (given p s n m t (now (radices .entry)) (now (weights .entry)) (now (tables .entry)) (now (d .entry))) (now (beta .entry)) ⌝ }
 {
-    match admit(p, s, n, m, t, weights, tables, d, Own::Row(beta.len())) {
+    match admit(
+        p,
+        s,
+        n,
+        m,
+        t,
+        radices,
+        weights,
+        tables,
+        d,
+        Own::Row(beta.len()),
+    ) {
         Checked::Refused(k) => Normed::Refused(k),
         Checked::Accepted(plan) => {
             if !field::all_below(beta, plan.p) {

@@ -18,12 +18,12 @@ use Rattle.listing.proofs.norm.worst_norm.Statement.{statement}
 use Rattle.listing.proofs.norm.worst_norm.Tie as tie
 
 abbrev start : tie.After-plan → tie.Start
-start c = c .before .before .before .before .before .before .before
+start c = c .before .before .before .before .before .before .before .before
 
 -- the call is admitted with that plan
 admitted : (c : tie.After-plan) →
     let a = start c .args in
-    Admitted (given (a .p) (a .s) (a .n) (a .m) (a .t) (a .weights .now) (a .tables .now) (a .d .now)) (Row (length (a .beta .now))) (c .plan .given .0 .0)
+    Admitted (given (a .p) (a .s) (a .n) (a .m) (a .t) (a .radices .now) (a .weights .now) (a .tables .now) (a .d .now)) (Row (length (a .beta .now))) (c .plan .given .0 .0)
 admitted c = admission _ _ (sym (c .before .before .admit .ensures) ∙ ap answerOf (c .plan .given .1))
 
 admit-requires : tie.Need-admit-requires
