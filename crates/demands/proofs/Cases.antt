@@ -1,29 +1,36 @@
--- 01, "Cases (those with * are proved)": one collected table of facts about the definitions. Each computes.
--- X is the XOR plan; L is the plan with one link of weight 1 and table 1, 0, 0; F has p = 5. Assumes nothing.
+-- 01, "Cases (those with * are proved)": one collected table of facts about the definitions; and 02, C-11: facts about a plan whose digits
+-- have radices of their own. Each computes.
+-- X is the XOR plan; L is the plan with one link of weight 1 and table 1, 0, 0; F has p = 5; M has a month and a bit. Assumes nothing.
 use mathlib.Core.Path.{_≡_, refl}
 use mathlib.Core.List.{List, [], _∷_}
 use Prim.Native.Nat.{ℕ, _+_, _*_, _%_}
 use Rattle.lists.specs.Places.{sum, tab, every, joined}
 use Rattle.field.specs.Primes.{isPrime, oddPrime}
 use Rattle.field.specs.Residues.{inverse, square, minusSquare}
-use Rattle.plan.specs.Numbers.{badRadix, outOfRange}
+use Rattle.plan.specs.Causes.{gives, refuses}
+use Rattle.plan.specs.Numbers.{product, badRadix, radicesFit, outOfRange}
 use Rattle.plan.specs.Parts.{Given, given, lengthsFit, valuesFit, storeSize, callCauses}
-use Rattle.plan.specs.Rows.{digit, link, chain, values, weighted, rowPlace, row}
+use Rattle.plan.specs.Rows.{digit, digits, link, chain, values, weighted, rowPlace, row}
 use Rattle.store.specs.declared.elimination.Filed.the-variants.{New, Implied, Refused}
 use Rattle.store.specs.Elimination.{isZeroRow, isPivot, isReduced, residual, lead, normal, inserted, outcome, after, rowStart, flat}
 use Rattle.store.specs.Calls.{answerOf, filed, coefficients}
-use Rattle.program.specs.Steps.{bootstraps, tableAt}
+use Rattle.program.specs.Steps.{tableAt, goodStep, wellFormed, assigned, stepped, registers, bootstraps, output}
 use Rattle.program.specs.Layout.{adds, linkSteps, productSteps, layout, stepCount}
+use Rattle.program.specs.Calls.{digitsFit, runAnswer}
 use Rattle.demands.specs.Demand3.{Filing, ours, call, refusal, answer, storeAfter, emptyStore, storeOf}
 
 abbrev pub X : Given
-X = given 3 2 2 0 1 [] [] (1 ∷ 1 ∷ [])
+X = given 3 2 2 0 1 (2 ∷ 2 ∷ []) [] [] (1 ∷ 1 ∷ [])
 
 abbrev pub L : Given
-L = given 3 2 1 1 0 (1 ∷ []) (1 ∷ 0 ∷ 0 ∷ []) []
+L = given 3 2 1 1 0 (2 ∷ []) (1 ∷ []) (1 ∷ 0 ∷ 0 ∷ []) []
 
 abbrev pub F : Given
-F = given 5 2 1 0 0 [] [] []
+F = given 5 2 1 0 0 (2 ∷ []) [] [] []
+
+-- "Customers' keys mix a month with a bit": p = 13, s = 3, no links and no products, radices 12 and 2
+abbrev pub M : Given
+M = given 13 3 2 0 0 (12 ∷ 2 ∷ []) [] [] []
 
 -- the store after some filings
 abbrev pub from : Given → List Filing → List ℕ
@@ -51,7 +58,7 @@ pub record Starred : Type 0 where
   pub five-product : (tableAt (F .numbers) (F .tables) 0 ((2 + 3) % 5) + tableAt (F .numbers) (F .tables) 1 ((2 + 4 * 3) % 5)) % 5 ≡ 1
 
 pub starred : Starred
-unfolding storeOf storeAfter answer refusal filed coefficients callCauses storeSize rowStart badRadix outOfRange oddPrime isPrime every lengthsFit valuesFit isZeroRow isPivot isReduced residual lead normal inserted outcome after flat tab sum row rowPlace weighted values chain link digit inverse square minusSquare tableAt bootstraps layout stepCount joined linkSteps productSteps adds
+unfolding storeOf storeAfter answer refusal filed coefficients callCauses storeSize rowStart product badRadix radicesFit outOfRange oddPrime isPrime every lengthsFit valuesFit isZeroRow isPivot isReduced residual lead normal inserted outcome after flat tab sum row rowPlace weighted values chain link digit inverse square minusSquare tableAt bootstraps layout stepCount joined linkSteps productSteps adds
 starred =
     record {
       xor-1 = refl;
@@ -68,4 +75,45 @@ starred =
       five-square = refl;
       five-minus = refl;
       five-product = refl;
+    }
+
+pub record Mixed : Type 0 where
+  -- 24 entries, "x_0 still the most significant"
+  pub month-low : digits M 1 ≡ 0 ∷ 1 ∷ []
+  pub month-some : digits M 14 ≡ 7 ∷ 0 ∷ []
+  pub month-last : digits M 23 ≡ 11 ∷ 1 ∷ []
+  -- the radices the other way round are another plan
+  pub month-turned : digits (given 13 3 2 0 0 (2 ∷ 12 ∷ []) [] [] []) 14 ≡ 1 ∷ 2 ∷ []
+  -- empty: (1,1) New 1; then (14,1) New 0; β = 2 1
+  pub month-1 : answer (call M (from M []) 1 1) ≡ answerOf (New 1)
+  pub month-2 : answer (call M (from M (ours 1 1 ∷ [])) 14 1) ≡ answerOf (New 0)
+  pub month-β : coefficients 2 (from M (ours 1 1 ∷ ours 14 1 ∷ [])) ≡ 2 ∷ 1 ∷ []
+  -- then (15,2) Implied, its value below s and not below the second radix; (15,1) gives 9, (24,0) gives 7, (15,3) gives 8
+  pub month-3 : answer (call M (from M (ours 1 1 ∷ ours 14 1 ∷ [])) 15 2) ≡ answerOf Implied
+  pub month-4 : answer (call M (from M (ours 1 1 ∷ ours 14 1 ∷ [])) 15 1) ≡ answerOf (Refused 9)
+  pub month-5 : answer (call M (from M (ours 1 1 ∷ ours 14 1 ∷ [])) 24 0) ≡ answerOf (Refused 7)
+  pub month-6 : answer (call M (from M (ours 1 1 ∷ ours 14 1 ∷ [])) 15 3) ≡ answerOf (Refused 8)
+  -- the run takes each digit below its own radix: 7 1 passes, 12 0 and 7 2 give 12
+  pub month-run : runAnswer M (layout (M .numbers) [] [] (2 ∷ 1 ∷ [])) (7 ∷ 1 ∷ []) ≡ gives (2 ∷ 0 ∷ [])
+  pub month-run-1 : runAnswer M (layout (M .numbers) [] [] (2 ∷ 1 ∷ [])) (12 ∷ 0 ∷ []) ≡ refuses 12
+  pub month-run-2 : runAnswer M (layout (M .numbers) [] [] (2 ∷ 1 ∷ [])) (7 ∷ 2 ∷ []) ≡ refuses 12
+
+pub mixed : Mixed
+unfolding storeOf storeAfter answer refusal filed coefficients callCauses storeSize rowStart product badRadix radicesFit outOfRange oddPrime isPrime every lengthsFit valuesFit isZeroRow isPivot isReduced residual lead normal inserted outcome after flat tab sum row rowPlace values chain digit inverse bootstraps layout joined adds wellFormed goodStep registers stepped assigned output digitsFit
+mixed =
+    record {
+      month-low = refl;
+      month-some = refl;
+      month-last = refl;
+      month-turned = refl;
+      month-1 = refl;
+      month-2 = refl;
+      month-β = refl;
+      month-3 = refl;
+      month-4 = refl;
+      month-5 = refl;
+      month-6 = refl;
+      month-run = refl;
+      month-run-1 = refl;
+      month-run-2 = refl;
     }

@@ -18,7 +18,7 @@ use borrow.Author.Tests.{eq-eqb, lt-ltb, ltb-true, not-false}
 use Rattle.lists.specs.Places.{at}
 use Rattle.plan.specs.Causes as causes
 use Rattle.plan.specs.Causes.{first, result, refuses}
-use Rattle.plan.specs.Numbers.{columns, entries, Within}
+use Rattle.plan.specs.Numbers.{columns, product, Within}
 use Rattle.plan.specs.Parts.{Given, Lent}
 use Rattle.plan.specs.Rows.{entryCause}
 use Rattle.plan.specs.declared.admission.Own.the-variants.{Nothing, Store}
@@ -34,7 +34,7 @@ use Rattle.store.proofs.Holding.{Holds}
 use Rattle.demands.specs.Demand3.{Accepted, Call, call, refusal, answer, storeAfter, isKept, emptyStore, Reproduces, Contradicts, Ours}
 
 abbrev pub Held : Given → List ℕ → List (ℕ × ℕ) → Type 0
-Held G = Holds (G .numbers .p) (columns (G .numbers)) (G .numbers .s) (entries (G .numbers)) (equation G)
+Held G = Holds (G .numbers .p) (columns (G .numbers)) (G .numbers .s) (product (G .radices)) (equation G)
 
 -- a call that is not kept was refused
 positive-refusal : (k : ℕ) (vs : List ℕ) → isKept (causes.answer k vs) ≡ false → 0 < k
@@ -71,10 +71,10 @@ module _ (G : Given) (accepted : Accepted G) where
   lent = unrefused G Nothing (λ _. []) accepted .lent
 
   pub held-empty : Held G (emptyStore G) []
-  held-empty = holding.holds-empty (G .numbers .p) (columns (G .numbers)) (G .numbers .s) (entries (G .numbers)) (equation G) (within .prime)
+  held-empty = holding.holds-empty (G .numbers .p) (columns (G .numbers)) (G .numbers .s) (product (G .radices)) (equation G) (within .prime)
 
   residues : (i v : ℕ) → v < G .numbers .s → (j : ℕ) → j ≤ columns (G .numbers) → equation G i v j < G .numbers .p
-  residues i v l = equation-residues G i v within lent (omega (arith, within .radix-high))
+  residues i v l = equation-residues G i v within lent (omega (arith, within .value-high))
 
   module _ (S : List ℕ) (K : List (ℕ × ℕ)) (h : Held G S K) (i v : ℕ) where
     refusal-is : refusal (call G S i v) ≡ first (entryCause G i ∷ valueCause (G .numbers) v ∷ conflictCause G S i v ∷ [])
@@ -84,15 +84,15 @@ module _ (G : Given) (accepted : Accepted G) where
         ∙ rw (isReduced-means (G .numbers .p) (columns (G .numbers)) (cells (columns (G .numbers)) S) .1 (h .reduced))
 
     -- the answer in range
-    answer-is : i < entries (G .numbers) → v < G .numbers .s → answer (call G S i v) ≡ answered (outcomeOf G S i v)
+    answer-is : i < product (G .radices) → v < G .numbers .s → answer (call G S i v) ≡ answered (outcomeOf G S i v)
     unfolding answer refusal
     answer-is hi hv =
         ap (λ (k : ℕ). causes.answer k (valuesOf (outcomeOf G S i v))) {y = cond (isContradiction (outcomeOf G S i v)) 9 0}
-        (refusal-is ∙ rw (lt-ltb i (entries (G .numbers)) hi, lt-ltb v (G .numbers .s) hv))
+        (refusal-is ∙ rw (lt-ltb i (product (G .radices)) hi, lt-ltb v (G .numbers .s) hv))
 
     contradicts : v < G .numbers .s → (outcomeOf G S i v ≡ contradiction) ↔ Contradicts G K i v
     contradicts hv =
-        let c = holding.contradicts (G .numbers .p) (columns (G .numbers)) (G .numbers .s) (entries (G .numbers)) (equation G) (within .prime) residues S K h i v hv in (
+        let c = holding.contradicts (G .numbers .p) (columns (G .numbers)) (G .numbers .s) (product (G .radices)) (equation G) (within .prime) residues S K h i v hv in (
           (λ e β l r each rep. c .0 e β l r (λ j u m. exactly j u β .1 (each j u m)) (exactly i v β .1 rep)),
           (λ none. c .1 (λ β l r each sat. none β l r (λ j u m. exactly j u β .0 (each j u m)) (exactly i v β .0 sat))),
         )
@@ -118,8 +118,8 @@ module _ (G : Given) (accepted : Accepted G) where
     held-kept kept =
         let zero = kept-passes (refusal (call G S i v)) (valuesOf (outcomeOf G S i v)) kept in
         let none = none-met (entryCause G i ∷ valueCause (G .numbers) v ∷ conflictCause G S i v ∷ []) (omega arith) (sym refusal-is ∙ zero) in
-        let near = ltb-true i (entries (G .numbers)) (not-false (ltb i (entries (G .numbers))) (none .0)) in
+        let near = ltb-true i (product (G .radices)) (not-false (ltb i (product (G .radices))) (none .0)) in
         let below = ltb-true v (G .numbers .s) (not-false (ltb v (G .numbers .s)) (none .1 .0)) in
         subst (λ (X : List ℕ). Held G X (K ++ ((i, v) ∷ []))) (sym (ap (λ (k : ℕ). result k (filed G S i v) S) zero))
-        (holding.holds-filed (G .numbers .p) (columns (G .numbers)) (G .numbers .s) (entries (G .numbers)) (equation G) (within .prime) residues S K h i v below near
+        (holding.holds-filed (G .numbers .p) (columns (G .numbers)) (G .numbers .s) (product (G .radices)) (equation G) (within .prime) residues S K h i v below near
         (λ e. true≢false (sym (ap isContradiction e) ∙ none .1 .1 .0)))
