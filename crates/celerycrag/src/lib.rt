@@ -23,13 +23,14 @@ pub extern "C" fn celery_check(
     n: usize,
     m: usize,
     t: usize,
+    radices: &[u8],
     weights: &[u8],
     tables: &[u8],
     d: &[u8],
 ) -> u8
-    ensures { λ r. ⌜ r ≡ first (checkCauses (given p s n m t (now (weights .entry)) (now (tables .entry)) (now (d .entry)))) ⌝ }
+    ensures { λ r. ⌜ r ≡ first (checkCauses (given p s n m t (now (radices .entry)) (now (weights .entry)) (now (tables .entry)) (now (d .entry)))) ⌝ }
 {
-    plan::check(p, s, n, m, t, weights, tables, d)
+    plan::check(p, s, n, m, t, radices, weights, tables, d)
 }
 
 // Fills `row`, of exactly C bytes, with row `entry`: causes 1 2 3 4 5 7.
@@ -40,16 +41,17 @@ pub extern "C" fn celery_row(
     n: usize,
     m: usize,
     t: usize,
+    radices: &[u8],
     weights: &[u8],
     tables: &[u8],
     d: &[u8],
     entry: usize,
     row: &mut [u8],
 ) -> u8
-    ensures { λ r. ⌜ r ≡ first (rows.rowCauses (given p s n m t (now (weights .entry)) (now (tables .entry)) (now (d .entry))) entry (now (row .entry))) ⌝ }
-    ensures { λ r. ⌜ now (row .exit) ≡ result r (rows.row (given p s n m t (now (weights .entry)) (now (tables .entry)) (now (d .entry))) entry) (now (row .entry)) ⌝ }
+    ensures { λ r. ⌜ r ≡ first (rows.rowCauses (given p s n m t (now (radices .entry)) (now (weights .entry)) (now (tables .entry)) (now (d .entry))) entry (now (row .entry))) ⌝ }
+    ensures { λ r. ⌜ now (row .exit) ≡ result r (rows.row (given p s n m t (now (radices .entry)) (now (weights .entry)) (now (tables .entry)) (now (d .entry))) entry) (now (row .entry)) ⌝ }
 {
-    plan::row(p, s, n, m, t, weights, tables, d, entry, row)
+    plan::row(p, s, n, m, t, radices, weights, tables, d, entry, row)
 }
 
 // Tests a store: causes 1 2 3 4 5 6.
@@ -60,14 +62,15 @@ pub extern "C" fn celery_test(
     n: usize,
     m: usize,
     t: usize,
+    radices: &[u8],
     weights: &[u8],
     tables: &[u8],
     d: &[u8],
     store: &[u8],
 ) -> u8
-    ensures { λ r. ⌜ r ≡ first (stores.testCauses (given p s n m t (now (weights .entry)) (now (tables .entry)) (now (d .entry))) (now (store .entry))) ⌝ }
+    ensures { λ r. ⌜ r ≡ first (stores.testCauses (given p s n m t (now (radices .entry)) (now (weights .entry)) (now (tables .entry)) (now (d .entry))) (now (store .entry))) ⌝ }
 {
-    store::test(p, s, n, m, t, weights, tables, d, store)
+    store::test(p, s, n, m, t, radices, weights, tables, d, store)
 }
 
 // Files an entry with its value: causes 1 to 9. `column` becomes the pivot column where the entry is new, and C, which is no
@@ -79,6 +82,7 @@ pub extern "C" fn celery_file(
     n: usize,
     m: usize,
     t: usize,
+    radices: &[u8],
     weights: &[u8],
     tables: &[u8],
     d: &[u8],
@@ -87,11 +91,24 @@ pub extern "C" fn celery_file(
     value: usize,
     column: &mut usize,
 ) -> u8
-    ensures { λ r. ⌜ r ≡ numberOf (stores.fileAnswer (given p s n m t (now (weights .entry)) (now (tables .entry)) (now (d .entry))) (now (store .entry)) entry value) ⌝ }
-    ensures { λ r. ⌜ now (store .exit) ≡ stores.fileStore (given p s n m t (now (weights .entry)) (now (tables .entry)) (now (d .entry))) (now (store .entry)) entry value ⌝ }
-    ensures { λ r. ⌜ now (column .exit) ≡ specs.columnOf (stores.fileAnswer (given p s n m t (now (weights .entry)) (now (tables .entry)) (now (d .entry))) (now (store .entry)) entry value) (columns (plan p s n m t)) (now (column .entry)) ⌝ }
+    ensures { λ r. ⌜ r ≡ numberOf (stores.fileAnswer (given p s n m t (now (radices .entry)) (now (weights .entry)) (now (tables .entry)) (now (d .entry))) (now (store .entry)) entry value) ⌝ }
+    ensures { λ r. ⌜ now (store .exit) ≡ stores.fileStore (given p s n m t (now (radices .entry)) (now (weights .entry)) (now (tables .entry)) (now (d .entry))) (now (store .entry)) entry value ⌝ }
+    ensures { λ r. ⌜ now (column .exit) ≡ specs.columnOf (stores.fileAnswer (given p s n m t (now (radices .entry)) (now (weights .entry)) (now (tables .entry)) (now (d .entry))) (now (store .entry)) entry value) (columns (plan p s n m t)) (now (column .entry)) ⌝ }
 {
-    let a = store::file(p, s, n, m, t, weights, tables, d, store, entry, value);
+    let a = store::file(
+        p,
+        s,
+        n,
+        m,
+        t,
+        radices,
+        weights,
+        tables,
+        d,
+        store,
+        entry,
+        value,
+    );
     match a {
         store::Filed::New(c) => {
             *column = c;
@@ -113,16 +130,17 @@ pub extern "C" fn celery_coefficients(
     n: usize,
     m: usize,
     t: usize,
+    radices: &[u8],
     weights: &[u8],
     tables: &[u8],
     d: &[u8],
     store: &[u8],
     beta: &mut [u8],
 ) -> u8
-    ensures { λ r. ⌜ r ≡ first (stores.coefficientsCauses (given p s n m t (now (weights .entry)) (now (tables .entry)) (now (d .entry))) (now (store .entry)) (now (beta .entry))) ⌝ }
+    ensures { λ r. ⌜ r ≡ first (stores.coefficientsCauses (given p s n m t (now (radices .entry)) (now (weights .entry)) (now (tables .entry)) (now (d .entry))) (now (store .entry)) (now (beta .entry))) ⌝ }
     ensures { λ r. ⌜ now (beta .exit) ≡ result r (stores.coefficients (columns (plan p s n m t)) (now (store .entry))) (now (beta .entry)) ⌝ }
 {
-    store::coefficients(p, s, n, m, t, weights, tables, d, store, beta)
+    store::coefficients(p, s, n, m, t, radices, weights, tables, d, store, beta)
 }
 
 // The number that `celery_write` would answer; nothing is written.
@@ -133,15 +151,16 @@ pub extern "C" fn celery_check_writing(
     n: usize,
     m: usize,
     t: usize,
+    radices: &[u8],
     weights: &[u8],
     tables: &[u8],
     d: &[u8],
     beta: &[u8],
     steps: &[u16],
 ) -> u8
-    ensures { λ r. ⌜ r ≡ first (programs.writeCauses (given p s n m t (now (weights .entry)) (now (tables .entry)) (now (d .entry))) (now (beta .entry)) (now (steps .entry))) ⌝ }
+    ensures { λ r. ⌜ r ≡ first (programs.writeCauses (given p s n m t (now (radices .entry)) (now (weights .entry)) (now (tables .entry)) (now (d .entry))) (now (beta .entry)) (now (steps .entry))) ⌝ }
 {
-    program::check_writing(p, s, n, m, t, weights, tables, d, beta, steps)
+    program::check_writing(p, s, n, m, t, radices, weights, tables, d, beta, steps)
 }
 
 // Writes the program at the front of `steps`: causes 1 2 3 4 5 10. `written` becomes 4 times the step count.
@@ -152,6 +171,7 @@ pub extern "C" fn celery_write(
     n: usize,
     m: usize,
     t: usize,
+    radices: &[u8],
     weights: &[u8],
     tables: &[u8],
     d: &[u8],
@@ -159,11 +179,11 @@ pub extern "C" fn celery_write(
     steps: &mut [u16],
     written: &mut usize,
 ) -> u8
-    ensures { λ r. ⌜ r ≡ first (programs.writeCauses (given p s n m t (now (weights .entry)) (now (tables .entry)) (now (d .entry))) (now (beta .entry)) (now (steps .entry))) ⌝ }
+    ensures { λ r. ⌜ r ≡ first (programs.writeCauses (given p s n m t (now (radices .entry)) (now (weights .entry)) (now (tables .entry)) (now (d .entry))) (now (beta .entry)) (now (steps .entry))) ⌝ }
     ensures { λ r. ⌜ now (steps .exit) ≡ programs.written r (plan p s n m t) (now (weights .entry)) (now (d .entry)) (now (beta .entry)) (now (steps .entry)) ⌝ }
     ensures { λ r. ⌜ now (written .exit) ≡ specs.lengthOf r (4 * stepCount (plan p s n m t)) (now (written .entry)) ⌝ }
 {
-    let k = program::write_into(p, s, n, m, t, weights, tables, d, beta, steps);
+    let k = program::write_into(p, s, n, m, t, radices, weights, tables, d, beta, steps);
     if k == 0 {
         // the plan was accepted, so p and s fit
         let p = p as u8;
@@ -181,6 +201,7 @@ pub extern "C" fn celery_run(
     n: usize,
     m: usize,
     t: usize,
+    radices: &[u8],
     weights: &[u8],
     tables: &[u8],
     d: &[u8],
@@ -189,11 +210,11 @@ pub extern "C" fn celery_run(
     y: &mut u8,
     count: &mut usize,
 ) -> u8
-    ensures { λ r. ⌜ r ≡ numberOf (programs.runAnswer (given p s n m t (now (weights .entry)) (now (tables .entry)) (now (d .entry))) (now (steps .entry)) (now (digits .entry))) ⌝ }
-    ensures { λ r. ⌜ now (y .exit) ≡ specs.valueOf (programs.runAnswer (given p s n m t (now (weights .entry)) (now (tables .entry)) (now (d .entry))) (now (steps .entry)) (now (digits .entry))) 0 (now (y .entry)) ⌝ }
-    ensures { λ r. ⌜ now (count .exit) ≡ specs.valueOf (programs.runAnswer (given p s n m t (now (weights .entry)) (now (tables .entry)) (now (d .entry))) (now (steps .entry)) (now (digits .entry))) 1 (now (count .entry)) ⌝ }
+    ensures { λ r. ⌜ r ≡ numberOf (programs.runAnswer (given p s n m t (now (radices .entry)) (now (weights .entry)) (now (tables .entry)) (now (d .entry))) (now (steps .entry)) (now (digits .entry))) ⌝ }
+    ensures { λ r. ⌜ now (y .exit) ≡ specs.valueOf (programs.runAnswer (given p s n m t (now (radices .entry)) (now (weights .entry)) (now (tables .entry)) (now (d .entry))) (now (steps .entry)) (now (digits .entry))) 0 (now (y .entry)) ⌝ }
+    ensures { λ r. ⌜ now (count .exit) ≡ specs.valueOf (programs.runAnswer (given p s n m t (now (radices .entry)) (now (weights .entry)) (now (tables .entry)) (now (d .entry))) (now (steps .entry)) (now (digits .entry))) 1 (now (count .entry)) ⌝ }
 {
-    let a = program::run(p, s, n, m, t, weights, tables, d, steps, digits);
+    let a = program::run(p, s, n, m, t, radices, weights, tables, d, steps, digits);
     match a {
         program::Ran::Done(v, b) => {
             *y = v;
@@ -212,16 +233,17 @@ pub extern "C" fn celery_worst_norm(
     n: usize,
     m: usize,
     t: usize,
+    radices: &[u8],
     weights: &[u8],
     tables: &[u8],
     d: &[u8],
     beta: &[u8],
     norm: &mut usize,
 ) -> u8
-    ensures { λ r. ⌜ r ≡ numberOf (norms.normAnswer (given p s n m t (now (weights .entry)) (now (tables .entry)) (now (d .entry))) (now (beta .entry))) ⌝ }
-    ensures { λ r. ⌜ now (norm .exit) ≡ specs.valueOf (norms.normAnswer (given p s n m t (now (weights .entry)) (now (tables .entry)) (now (d .entry))) (now (beta .entry))) 0 (now (norm .entry)) ⌝ }
+    ensures { λ r. ⌜ r ≡ numberOf (norms.normAnswer (given p s n m t (now (radices .entry)) (now (weights .entry)) (now (tables .entry)) (now (d .entry))) (now (beta .entry))) ⌝ }
+    ensures { λ r. ⌜ now (norm .exit) ≡ specs.valueOf (norms.normAnswer (given p s n m t (now (radices .entry)) (now (weights .entry)) (now (tables .entry)) (now (d .entry))) (now (beta .entry))) 0 (now (norm .entry)) ⌝ }
 {
-    let a = listing::worst_norm(p, s, n, m, t, weights, tables, d, beta);
+    let a = listing::worst_norm(p, s, n, m, t, radices, weights, tables, d, beta);
     match a {
         listing::Normed::Norm(x) => {
             *norm = x;

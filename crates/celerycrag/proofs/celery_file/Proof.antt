@@ -11,7 +11,7 @@ use Rattle.celerycrag.proofs.celery_file.Statement.{statement}
 use Rattle.celerycrag.proofs.celery_file.Tie as tie
 
 abbrev start : tie.After-file → tie.Start
-start c = c .before .before .before .before .before .before
+start c = c .before .before .before .before .before .before .before
 
 -- an implied entry's plan is within its limits
 within : (c : tie.After-enum-told) → let a = start (c .before .before .before .before) .args in Within (plan (a .p) (a .s) (a .n) (a .m) (a .t))

@@ -18,7 +18,7 @@ lengthOf-refused zero n old h = absurd (h refl)
 lengthOf-refused (suc k) n old h = refl
 
 abbrev start : tie.After-write-into → tie.Start
-start c = c .before .before .before .before .before .before .before
+start c = c .before .before .before .before .before .before .before .before
 
 write-into-requires : tie.Need-write-into-requires
 write-into-requires c κs = search needs
@@ -31,7 +31,7 @@ cast-p : tie.Need-cast-p
 cast-p c = omega (arith, prime-high (within c))
 
 cast-s : tie.Need-cast-s
-cast-s c = omega (arith, prime-high (within c), within c .radix-high)
+cast-s c = omega (arith, prime-high (within c), within c .value-high)
 
 step-count-requires : tie.Need-step-count-requires
 step-count-requires c κs = within c
