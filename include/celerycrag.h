@@ -12,22 +12,28 @@
  *
  * THE PLAN
  *
- * Every call is first lent a plan: five numbers and three parts.
+ * Every call is first lent a plan: five numbers and four parts.
  *
  *   p         an odd prime from 3 to 251
- *   s         the radix of the digits, 2 to p
+ *   s         2 to p; the values of a table that is filed are below s
  *   n         the number of input digits, at least 1
  *   m         the number of links
  *   t         the number of products, at most 32
+ *   radices   the radix of each digit, n of them, each 2 to p
  *   weights   link k (from 0) has n + k weights, links in order
  *   tables    p values for each link, for the sums 0 to p-1 in order
  *   d         t rows of L weights, the fixed halves of the products
  *
  * L = n + m, the number of variables, is at most 64. C = (t + 1) L, the number
- * of columns, is at most 1,024. s^n, the number of entries, is at most 4,096.
- * All bytes of the parts are below p.
+ * of columns, is at most 1,024. The product of the radices, which is the number
+ * of entries, is at most 4,096. All bytes of weights, tables and d are below p.
  *
- * Variables 0 to n-1 are the digits of an entry, the most significant first.
+ * Variables 0 to n-1 are the digits of an entry, x_0 the most significant:
+ * digit j of entry i is i divided by the product of the radices behind radix j,
+ * rounded down, modulo radix j. So digit j is below radix j. With the radices
+ * 12 2, for a month and a bit, there are 24 entries, and entry 23 has the
+ * digits 11 1. A radix may be above s or below it.
+ *
  * Variable n+k is table k at the sum of link k's weights, each times its
  * variable, modulo p. A coefficient list, beta, has C residues: L for each
  * product and L more. The value that it gives an entry is, modulo p, the sum
@@ -57,18 +63,19 @@
  *
  * Each call answers 0 where it accepts, else the number of the first cause
  * that it meets, in the order of the numbers; lengths of all parts (4) come
- * before values (5). A refused call leaves all that it was lent as it was, the
- * single numbers too.
+ * before values (5). The radices are judged as lent: a bad one (2) and a
+ * product above 4,096 (3) come first also where there are not n of them (4). A
+ * refused call leaves all that it was lent as it was, the single numbers too.
  *
  *
  * COST
  *
- * Each call tests the plan first, which reads its parts once: less than 19,000
- * bytes under every plan. The cost given with a call is what comes on top where
- * it is accepted: passes over what is lent, multiplications, each with the
- * reduction of its product by a reciprocal of p where there is one, and
- * divisions. What is done once for each digit, link, product or row is left
- * out.
+ * Each call tests the plan first, which reads its parts once, the radices
+ * twice: less than 19,000 bytes under every plan that is accepted. The cost
+ * given with a call is what comes on top where it is accepted: passes over what
+ * is lent, multiplications, each with the reduction of its product by a
+ * reciprocal of p where there is one, and divisions. What is done once for each
+ * digit, link, product or row is left out.
  */
 #ifndef CELERYCRAG_H
 #define CELERYCRAG_H
@@ -84,17 +91,17 @@ extern "C" {
 enum celery_refusal {
     CELERY_ACCEPTED = 0,
     CELERY_NO_PRIME = 1,      /* p is no odd prime from 3 to 251 */
-    CELERY_RADIX = 2,         /* s is below 2 or above p */
-    CELERY_RANGE = 3,         /* n, L, t, C or s^n is out of range */
+    CELERY_RADIX = 2,         /* s or a radix is below 2 or above p */
+    CELERY_RANGE = 3,         /* n, L, t, C or the product of the radices is out of range */
     CELERY_LENGTH = 4,        /* a part has another length than the plan says */
     CELERY_NO_RESIDUE = 5,    /* a weight, table value or given beta is not below p */
     CELERY_DAMAGED = 6,       /* the store is not in reduced form */
-    CELERY_NO_ENTRY = 7,      /* the entry is not below s^n */
+    CELERY_NO_ENTRY = 7,      /* the entry is not below the product of the radices */
     CELERY_NO_VALUE = 8,      /* the value is not below s */
     CELERY_CONTRADICTION = 9, /* no beta reproduces the entry with all kept before */
     CELERY_NO_ROOM = 10,      /* the step slice is shorter than 4 times the step count */
     CELERY_STEPS = 11,        /* the step list is malformed */
-    CELERY_NO_DIGIT = 12      /* a digit is not below s */
+    CELERY_NO_DIGIT = 12      /* a digit is not below its own radix */
 };
 
 /*
@@ -104,6 +111,7 @@ enum celery_refusal {
  */
 #define CELERY_VARIABLES(n, m) ((n) + (m))
 #define CELERY_COLUMNS(n, m, t) (((t) + 1) * CELERY_VARIABLES(n, m))
+#define CELERY_RADICES_LEN(n) (n)
 #define CELERY_WEIGHTS_LEN(n, m) ((m) * (n) + (m) * ((m) - 1) / 2)
 #define CELERY_TABLES_LEN(p, m) ((p) * (m))
 #define CELERY_D_LEN(n, m, t) ((t) * CELERY_VARIABLES(n, m))
@@ -118,6 +126,7 @@ enum celery_refusal {
 /* The parameters by which every call is lent its plan. */
 #define CELERY_PLAN                                          \
     size_t p, size_t s, size_t n, size_t m, size_t t,        \
+    const uint8_t *radices, size_t radices_len,              \
     const uint8_t *weights, size_t weights_len,              \
     const uint8_t *tables, size_t tables_len,                \
     const uint8_t *d, size_t d_len
@@ -233,8 +242,8 @@ uint8_t celery_write(CELERY_PLAN, const uint8_t *beta, size_t beta_len,
  * below p, a table above m+1, or a kind 0 `from` or `by` not 0; the whole list
  * is tested before its first step is carried out.
  *
- * Lent:    steps, any number of numbers; digits, n bytes below s, the most
- *          significant first; y; bootstraps.
+ * Lent:    steps, any number of numbers; digits, n bytes, the most significant
+ *          first, each below its own radix; y; bootstraps.
  * Causes:  1 2 3 4 5, 11, 12.
  * Writes:  *y: register y after the last step. *bootstraps: the number of
  *          kind 2 steps carried out.

@@ -1,8 +1,9 @@
 /*
  * The exclusive or of two bits, from the plan to the program, through the C
  * interface: files the table, reads the coefficients off, writes the program,
- * runs it on all four inputs and compares. Then every part that can be empty is
- * lent as a null pointer. It is C and C++. Prints "ok", or the line at fault.
+ * runs it on all four inputs and compares. The same for the days of a month
+ * under two radices, 12 and 2. Then every part that can be empty is lent as a
+ * null pointer. It is C and C++. Prints "ok", or the line at fault.
  */
 #include "celerycrag.h"
 
@@ -27,10 +28,12 @@ enum {
     ROOM = STEPS + 3
 };
 
+static const uint8_t radices[CELERY_RADICES_LEN(N)] = {2, 2};
 static const uint8_t d[CELERY_D_LEN(N, M, T)] = {1, 1};
-#define XOR P, S, N, M, T, NONE, NONE, d, sizeof d
+#define BITS radices, sizeof radices
+#define XOR P, S, N, M, T, BITS, NONE, NONE, d, sizeof d
 /* The same without products. */
-#define BARE P, S, N, 0, 0, NONE, NONE, NONE
+#define BARE P, S, N, 0, 0, BITS, NONE, NONE, NONE
 
 #define CHECK(fact)                                                     \
     do {                                                                \
@@ -64,6 +67,118 @@ static int file(uint8_t *store, size_t entry, size_t value, int answer, size_t c
 }
 
 /*
+ * The days of a month beyond 28: a month of 12 and a bit that says whether the
+ * year is a leap year, so 24 entries, whose values are below 4. Link 0 is 1 at
+ * February of a leap year alone, since there alone the month plus 11 times the
+ * bit is 12 modulo 13; link 1 is a table of the month, and the value is their
+ * sum.
+ */
+enum { DAYS_P = 13, DAYS_S = 4, DAYS_N = 2, DAYS_M = 2, DAYS_T = 0, ENTRIES = 24 };
+enum {
+    DAYS_C = CELERY_COLUMNS(DAYS_N, DAYS_M, DAYS_T),
+    DAYS_STORE = CELERY_STORE_LEN(DAYS_N, DAYS_M, DAYS_T),
+    DAYS_STEPS = CELERY_STEPS_LEN(DAYS_N, DAYS_M, DAYS_T)
+};
+static const uint8_t month_and_bit[CELERY_RADICES_LEN(DAYS_N)] = {12, 2};
+static const uint8_t days_weights[CELERY_WEIGHTS_LEN(DAYS_N, DAYS_M)] = {1, 11, 1, 0, 0};
+static const uint8_t days_tables[CELERY_TABLES_LEN(DAYS_P, DAYS_M)] = {
+    0, 0, 0, 0, 0, 0, 0, 0, 0, 0, 0, 0, 1, /* at the sum 12 */
+    3, 0, 3, 2, 3, 2, 3, 3, 2, 3, 2, 3, 0, /* at the month, which is never 12 */
+};
+/* Lends the plan with other radices. */
+#define DAYS_IN(given, count)                                               \
+    DAYS_P, DAYS_S, DAYS_N, DAYS_M, DAYS_T, given, count,                   \
+    days_weights, sizeof days_weights, days_tables, sizeof days_tables, NONE
+#define DAYS DAYS_IN(month_and_bit, sizeof month_and_bit)
+
+/* The same from the calendar, without the plan. */
+static size_t beyond_28(size_t month, size_t leap)
+{
+    switch (month) {
+    case 1:
+        return leap;
+    case 3:
+    case 5:
+    case 8:
+    case 10:
+        return 2;
+    default:
+        return 3;
+    }
+}
+
+/* Files all entries, runs the program on each input, and lends what is refused. Answers 0, or prints the line at fault. */
+static int days_of_a_month(void)
+{
+    static const uint8_t off[DAYS_C] = {0, 0, 1, 1};
+    /* Radices that are refused, each with so many of them and the answer. */
+    static const struct {
+        uint8_t radices[5];
+        size_t count;
+        int answer;
+    } wrong[] = {
+        {{12, 1}, 2, CELERY_RADIX},
+        {{0, 2}, 2, CELERY_RADIX},
+        {{14, 2}, 2, CELERY_RADIX},
+        {{12, 255}, 2, CELERY_RADIX},
+        {{12, 2, 1}, 3, CELERY_RADIX}, /* 2 before 4 */
+        {{13, 13, 13, 13, 1}, 5, CELERY_RADIX}, /* 2 before 3 */
+        {{13, 13, 13, 13}, 4, CELERY_RANGE}, /* 28,561 entries: 3 before 4 */
+        {{8, 8, 8, 8}, 4, CELERY_LENGTH}, /* 4,096 entries */
+        {{12, 2, 2}, 3, CELERY_LENGTH},
+        {{12}, 1, CELERY_LENGTH},
+        {{12}, 0, CELERY_LENGTH},
+    };
+    static const uint8_t late_month[DAYS_N] = {12, 1}, late_bit[DAYS_N] = {1, 2};
+    uint8_t store[DAYS_STORE] = {0}, kept[DAYS_STORE] = {0};
+    uint8_t row[DAYS_C] = {0}, beta[DAYS_C] = {0}, y = 99;
+    uint16_t steps[DAYS_STEPS] = {0};
+    size_t written = 0, column = 999, bootstraps = 999, new_rows = 0, entry, i;
+
+    CHECK(celery_check(DAYS) == CELERY_ACCEPTED);
+    for (entry = 0; entry < ENTRIES; entry++) {
+        size_t value = beyond_28(entry / 2, entry % 2);
+        CHECK(celery_file(DAYS, store, sizeof store, entry, value, &column) == CELERY_ACCEPTED);
+        new_rows += column < DAYS_C;
+    }
+    CHECK(new_rows == DAYS_C);
+    CHECK(celery_coefficients(DAYS, store, sizeof store, beta, sizeof beta) == CELERY_ACCEPTED);
+    CHECK(memcmp(beta, off, sizeof beta) == 0);
+    CHECK(celery_write(DAYS, beta, sizeof beta, steps, DAYS_STEPS, &written) == CELERY_ACCEPTED);
+    CHECK(written == DAYS_STEPS);
+
+    for (entry = 0; entry < ENTRIES; entry++) {
+        uint8_t digits[DAYS_N] = {(uint8_t)(entry / 2), (uint8_t)(entry % 2)};
+        CHECK(celery_row(DAYS, entry, row, sizeof row) == CELERY_ACCEPTED);
+        CHECK(memcmp(row, digits, sizeof digits) == 0);
+        CHECK(celery_run(DAYS, steps, written, digits, DAYS_N, &y, &bootstraps) == CELERY_ACCEPTED);
+        CHECK(y == beyond_28(digits[0], digits[1]));
+        CHECK(bootstraps == DAYS_M);
+    }
+
+    /* Entry 24 is refused, a value of 4, a month of 12, and a bit of 2, though a month may be 2. */
+    memcpy(kept, store, sizeof store);
+    column = 999, y = 99, bootstraps = 999;
+    CHECK(celery_row(DAYS, ENTRIES, row, sizeof row) == CELERY_NO_ENTRY);
+    CHECK(celery_file(DAYS, store, sizeof store, ENTRIES, 0, &column) == CELERY_NO_ENTRY);
+    CHECK(celery_file(DAYS, store, sizeof store, 0, DAYS_S, &column) == CELERY_NO_VALUE);
+    CHECK(celery_file(DAYS, store, sizeof store, 3, 0, &column) == CELERY_CONTRADICTION);
+    CHECK(celery_run(DAYS, steps, written, late_month, DAYS_N, &y, &bootstraps) == CELERY_NO_DIGIT);
+    CHECK(celery_run(DAYS, steps, written, late_bit, DAYS_N, &y, &bootstraps) == CELERY_NO_DIGIT);
+    CHECK(memcmp(kept, store, sizeof store) == 0);
+    CHECK(column == 999 && y == 99 && bootstraps == 999);
+
+    for (i = 0; i < sizeof wrong / sizeof *wrong; i++) {
+        CHECK(celery_check(DAYS_IN(wrong[i].radices, wrong[i].count)) == wrong[i].answer);
+        CHECK(celery_file(DAYS_IN(wrong[i].radices, wrong[i].count), store, sizeof store, 3, 1, &column) ==
+              wrong[i].answer);
+    }
+    CHECK(memcmp(kept, store, sizeof store) == 0);
+    CHECK(column == 999);
+    return 0;
+}
+
+/*
  * Empty parts as null pointers: those of a plan without links and products, an
  * empty list of steps, and any part of a call that is refused for its length.
  * A refused call leaves the single numbers as they were. Answers 0, or prints
@@ -78,9 +193,10 @@ static int empty_parts(void)
     size_t column = 999, written = 999, bootstraps = 999, norm = 999;
 
     CHECK(celery_check(BARE) == CELERY_ACCEPTED);
-    CHECK(celery_check(P, S, N, 0, 0, NULL, 0, NULL, 0, NULL, 0) == CELERY_ACCEPTED);
-    CHECK(celery_check(P, S, N, 0, 1, NULL, 0, NULL, 0, NULL, 0) == CELERY_LENGTH);
-    CHECK(celery_check(P, S, N, 1, 0, NULL, 0, NULL, 0, NULL, 0) == CELERY_LENGTH);
+    CHECK(celery_check(P, S, N, 0, 0, BITS, NULL, 0, NULL, 0, NULL, 0) == CELERY_ACCEPTED);
+    CHECK(celery_check(P, S, N, 0, 1, BITS, NULL, 0, NULL, 0, NULL, 0) == CELERY_LENGTH);
+    CHECK(celery_check(P, S, N, 1, 0, BITS, NULL, 0, NULL, 0, NULL, 0) == CELERY_LENGTH);
+    CHECK(celery_check(P, S, N, 0, 0, NULL, 0, NULL, 0, NULL, 0, NULL, 0) == CELERY_LENGTH);
 
     /* Where the plan asks for more, an empty part is refused for its length, and an empty step slice for its room. */
     CHECK(celery_row(BARE, 3, NULL, 0) == CELERY_LENGTH);
@@ -126,8 +242,9 @@ int main(void)
     size_t written = 0, norm = 0, entry, i;
 
     CHECK(celery_check(XOR) == CELERY_ACCEPTED);
-    CHECK(celery_check(9, S, N, M, T, NONE, NONE, d, sizeof d) == CELERY_NO_PRIME);
-    CHECK(celery_check(P, S, N, M, T, NONE, NONE, d, 1) == CELERY_LENGTH);
+    CHECK(celery_check(9, S, N, M, T, BITS, NONE, NONE, d, sizeof d) == CELERY_NO_PRIME);
+    CHECK(celery_check(P, S, N, M, T, BITS, NONE, NONE, d, 1) == CELERY_LENGTH);
+    CHECK(celery_check(P, S, N, M, T, NONE, NONE, NONE, d, sizeof d) == CELERY_LENGTH);
 
     CHECK(file(store, 0, 0, CELERY_ACCEPTED, C));
     CHECK(file(store, 1, 1, CELERY_ACCEPTED, 1));
@@ -169,7 +286,7 @@ int main(void)
     store[0] = 2;
     CHECK(celery_test(XOR, store, sizeof store) == CELERY_DAMAGED);
 
-    if (empty_parts() != 0)
+    if (days_of_a_month() != 0 || empty_parts() != 0)
         return 1;
 
     puts("ok");
