@@ -2,7 +2,7 @@
 //! Nothing compares these lines with the library's source: the random tests
 //! are what stands between a slip here and a host.
 
-/// Declares the calls: each takes the plan's five numbers and three parts, a
+/// Declares the calls: each takes the plan's five numbers and four parts, a
 /// part as a pointer and a length, and then its own arguments.
 macro_rules! calls {
     ($($name:ident($($own:ident: $type:ty),*);)*) => {
@@ -13,6 +13,8 @@ macro_rules! calls {
                 n: usize,
                 m: usize,
                 t: usize,
+                radices: *const u8,
+                radices_len: usize,
                 weights: *const u8,
                 weights_len: usize,
                 tables: *const u8,

@@ -1,12 +1,13 @@
 //! Look-up tables for data that stays encrypted under TFHE: a safe wrapper over
 //! a library whose every function is proved to meet its contract.
 //!
-//! A [`Plan`] is a small odd prime, a chain of one-input tables fed by weighted
-//! sums (links), and the fixed halves of some products. A [`Store`] files the
-//! entries of a table under a plan, one by one, and refuses an entry and a value
-//! in range exactly when no coefficients reproduce them together with all kept
-//! before. From the coefficients read off, a [`Program`] of sums and bootstraps
-//! is written; run on the digits of a kept entry it yields the kept value.
+//! A [`Plan`] is a small odd prime, a radix for each input digit, a chain of
+//! one-input tables fed by weighted sums (links), and the fixed halves of some
+//! products. A [`Store`] files the entries of a table under a plan, one by one,
+//! and refuses an entry and a value in range exactly when no coefficients
+//! reproduce them together with all kept before. From the coefficients read off,
+//! a [`Program`] of sums and bootstraps is written; run on the digits of a kept
+//! entry it yields the kept value.
 //!
 //! All of it is in the clear: encryption, keys, noise and the search for plans
 //! are the host's.
@@ -20,7 +21,7 @@
 //!
 //! # fn main() -> Result<(), Refusal> {
 //! let shape = Shape { p: 3, s: 2, n: 2, m: 0, t: 1 };
-//! let plan = Plan::new(shape, vec![], vec![], vec![1, 1])?;
+//! let plan = Plan::new(shape, vec![2, 2], vec![], vec![], vec![1, 1])?;
 //!
 //! let mut store = Store::new(&plan);
 //! assert_eq!(store.file(0, 0)?, Filed::Implied);
@@ -42,6 +43,47 @@
 //! # Ok(())
 //! # }
 //! ```
+//!
+//! # A radix for each digit
+//!
+//! How many days a month has beyond 28: the month is a digit of radix 12, and a
+//! digit of radix 2 says whether the year is a leap year. That makes 24 entries;
+//! s = 4 bounds their values and has nothing to do with the digits.
+//!
+//! ```
+//! use celerycrag::{Plan, Program, Refusal, Shape, Store};
+//!
+//! # fn main() -> Result<(), Refusal> {
+//! let common = [3, 0, 3, 2, 3, 2, 3, 3, 2, 3, 2, 3];
+//! let days = |month: u8, leap: u8| common[month as usize] + u8::from((month, leap) == (1, 1));
+//!
+//! // Link 0 is 1 where month + 11 leap is 12 modulo 13: at February of a leap
+//! // year. Link 1 is a table of the month.
+//! let shape = Shape { p: 13, s: 4, n: 2, m: 2, t: 0 };
+//! let weights = vec![1, 11, 1, 0, 0];
+//! let mut tables = vec![0; 2 * 13];
+//! tables[12] = 1;
+//! tables[13..25].copy_from_slice(&common);
+//! let plan = Plan::new(shape, vec![12, 2], weights, tables, vec![])?;
+//! assert_eq!(plan.entries(), 24);
+//! assert_eq!(plan.digits(23)?, [11, 1]);
+//! assert_eq!(plan.digits(24), Err(Refusal::NO_ENTRY));
+//!
+//! let mut store = Store::new(&plan);
+//! for entry in 0..plan.entries() {
+//!     let digits = plan.digits(entry)?;
+//!     store.file(entry, days(digits[0], digits[1]).into())?;
+//! }
+//! let program = Program::write(&plan, &store.coefficients()?)?;
+//! assert_eq!(program.run(&[1, 1])?.y, 1);
+//! assert_eq!(program.run(&[7, 0])?.y, 3);
+//! assert_eq!(program.run(&[12, 0]), Err(Refusal::NO_DIGIT));
+//! assert_eq!(program.run(&[0, 2]), Err(Refusal::NO_DIGIT));
+//! # Ok(())
+//! # }
+//! ```
+//!
+//! [`Plan::with_radix`] takes one radix, s, for all digits.
 //!
 //! # Refusals
 //!

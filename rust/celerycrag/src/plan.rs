@@ -7,15 +7,16 @@ use std::sync::Arc;
 
 /// The five numbers of a plan.
 ///
-/// From them come L = n + m, the number of variables, C = (t + 1) L, the number
-/// of columns, and s^n, the number of entries.
+/// From them come L = n + m, the number of variables, and C = (t + 1) L, the
+/// number of columns. The number of entries is the product of the radices,
+/// which are a part of the plan and no number of its shape.
 #[derive(Clone, Copy, Debug, PartialEq, Eq, Hash)]
 pub struct Shape {
     /// The prime, odd, from 3 to 251.
     pub p: usize,
-    /// The radix of the digits, from 2 to p.
+    /// The bound of the values that are filed, which are below s; from 2 to p.
     pub s: usize,
-    /// The number of input digits, at least 1; s^n is at most 4,096.
+    /// The number of input digits, at least 1.
     pub n: usize,
     /// The number of links; L = n + m is at most 64.
     pub m: usize,
@@ -34,31 +35,67 @@ pub struct Plan {
 
 #[derive(Debug, PartialEq, Eq, Hash)]
 struct Parts {
+    radices: Vec<u8>,
     weights: Vec<u8>,
     tables: Vec<u8>,
     d: Vec<u8>,
 }
 
 impl Plan {
-    /// Checks the numbers and parts of a plan, all of them residues modulo p,
-    /// and keeps them.
+    /// Checks the numbers and parts of a plan, and keeps them.
     ///
-    /// `weights` has n + k weights for link k, link after link; `tables` has p
-    /// values for each link, for the sums 0 to p - 1; `d` has L weights for
-    /// each product.
+    /// `radices` has the radix of each of the n digits, the most significant
+    /// first, each from 2 to p, their product at most 4,096. The other parts
+    /// are residues modulo p: `weights` has n + k weights for link k, link after
+    /// link; `tables` has p values for each link, for the sums 0 to p - 1; `d`
+    /// has L weights for each product.
     ///
     /// # Errors
     /// Causes 1 to 5.
     pub fn new(
         shape: Shape,
+        radices: Vec<u8>,
         weights: Vec<u8>,
         tables: Vec<u8>,
         d: Vec<u8>,
     ) -> Result<Plan, Refusal> {
-        let parts = Arc::new(Parts { weights, tables, d });
+        let parts = Arc::new(Parts {
+            radices,
+            weights,
+            tables,
+            d,
+        });
         let plan = Plan { shape, parts };
         Refusal::unless_0(raw::check(plan.lent()))?;
         Ok(plan)
+    }
+
+    /// A plan with s for the radix of every digit, so that its entries are the
+    /// numbers of n digits in radix s, s^n of them.
+    ///
+    /// ```
+    /// use celerycrag::{Plan, Shape};
+    /// let shape = Shape { p: 5, s: 3, n: 4, m: 0, t: 0 };
+    /// let plan = Plan::with_radix(shape, vec![], vec![], vec![])?;
+    /// assert_eq!(plan.radices(), [3, 3, 3, 3]);
+    /// assert_eq!(plan.entries(), 81);
+    /// # Ok::<(), celerycrag::Refusal>(())
+    /// ```
+    ///
+    /// # Errors
+    /// Causes 1 to 5.
+    pub fn with_radix(
+        shape: Shape,
+        weights: Vec<u8>,
+        tables: Vec<u8>,
+        d: Vec<u8>,
+    ) -> Result<Plan, Refusal> {
+        // An s that is no byte is above p (2), and an n above 64 is out of
+        // range (3), whatever the radices: a list cut there is refused as the
+        // whole one would be.
+        let radix = u8::try_from(shape.s).unwrap_or(u8::MAX);
+        let radices = vec![radix; shape.n.min(65)];
+        Plan::new(shape, radices, weights, tables, d)
     }
 
     /// The plan as the functions of [`raw`] take it.
@@ -70,6 +107,7 @@ impl Plan {
             n,
             m,
             t,
+            radices: &self.parts.radices,
             weights: &self.parts.weights,
             tables: &self.parts.tables,
             d: &self.parts.d,
@@ -79,6 +117,11 @@ impl Plan {
     /// The five numbers.
     pub fn shape(&self) -> Shape {
         self.shape
+    }
+
+    /// The radix of each digit, the most significant first.
+    pub fn radices(&self) -> &[u8] {
+        &self.parts.radices
     }
 
     /// The weights of the links, link after link.
@@ -110,9 +153,10 @@ impl Plan {
         (self.shape.t + 1) * self.variables()
     }
 
-    /// s^n, the number of entries.
+    /// The number of entries, which is the product of the radices.
     pub fn entries(&self) -> usize {
-        (0..self.shape.n).fold(1, |entries, _| entries * self.shape.s)
+        let radices = self.parts.radices.iter();
+        radices.map(|&radix| usize::from(radix)).product()
     }
 
     /// The number of bootstraps of every program written under this plan,
@@ -139,7 +183,7 @@ impl Plan {
     }
 
     /// The digits of an entry, the most significant first: what a program is
-    /// run on.
+    /// run on. Each is below its own radix.
     ///
     /// They are the first n variables, which the row's last block holds.
     ///
@@ -161,7 +205,8 @@ impl Plan {
     /// # Errors
     /// Cause 11 where the number is above m + 1.
     pub fn table(&self, number: u16) -> Result<Vec<u8>, Refusal> {
-        // With digit 0 at 1, the first step puts z in register u.
+        // With digit 0 at 1, which every radix allows, the first step puts z in
+        // register u.
         let [u, y] = [self.variables() as u16, self.variables() as u16 + 4];
         let mut digits = vec![0; self.shape.n];
         digits.iter_mut().take(1).for_each(|digit| *digit = 1);
@@ -175,7 +220,8 @@ impl Plan {
     /// Runs any list of steps, four numbers each, on the digits.
     ///
     /// # Errors
-    /// Cause 4 where there are not n digits, 11 for the list, 12 for a digit.
+    /// Cause 4 where there are not n digits, 11 for the list, 12 where a digit
+    /// is not below its own radix.
     pub fn run(&self, steps: &[u16], digits: &[u8]) -> Result<Ran, Refusal> {
         let (mut y, mut bootstraps) = (0, 0);
         let number = raw::run(self.lent(), steps, digits, &mut y, &mut bootstraps);

@@ -96,7 +96,8 @@ impl Program {
     /// Runs the program in the clear on the digits of an input.
     ///
     /// # Errors
-    /// Cause 4 where there are not n digits, 12 where one is not below s.
+    /// Cause 4 where there are not n digits, 12 where one is not below its own
+    /// radix.
     pub fn run(&self, digits: &[u8]) -> Result<Ran, Refusal> {
         self.plan.run(&self.numbers, digits)
     }

@@ -8,13 +8,13 @@
 
 use crate::ffi;
 
-/// A plan as it is lent to a call: its five numbers and three parts, of any
+/// A plan as it is lent to a call: its five numbers and four parts, of any
 /// lengths and with any bytes.
 #[derive(Clone, Copy, Debug)]
 pub struct Lent<'a> {
     /// The prime.
     pub p: usize,
-    /// The radix of the digits.
+    /// The bound of the values that are filed.
     pub s: usize,
     /// The number of input digits.
     pub n: usize,
@@ -22,6 +22,8 @@ pub struct Lent<'a> {
     pub m: usize,
     /// The number of products.
     pub t: usize,
+    /// The radix of each digit, the most significant first.
+    pub radices: &'a [u8],
     /// The weights of the links, link after link.
     pub weights: &'a [u8],
     /// The tables of the links, p values each.
@@ -48,6 +50,8 @@ macro_rules! call {
                 plan.n,
                 plan.m,
                 plan.t,
+                plan.radices.as_ptr(),
+                plan.radices.len(),
                 plan.weights.as_ptr(),
                 plan.weights.len(),
                 plan.tables.as_ptr(),

@@ -11,7 +11,7 @@ use std::fmt;
 /// ```
 /// use celerycrag::{Plan, Refusal, Shape};
 /// let shape = Shape { p: 9, s: 2, n: 2, m: 0, t: 0 };
-/// let refusal = Plan::new(shape, vec![], vec![], vec![]).unwrap_err();
+/// let refusal = Plan::new(shape, vec![2, 2], vec![], vec![], vec![]).unwrap_err();
 /// assert_eq!(refusal, Refusal::NO_PRIME);
 /// assert_eq!(refusal.number(), 1);
 /// assert_eq!(refusal.to_string(), "refused with 1: p is no odd prime from 3 to 251");
@@ -24,17 +24,17 @@ pub struct Refusal {
 impl Refusal {
     /// 1: p is no odd prime from 3 to 251.
     pub const NO_PRIME: Refusal = Refusal { number: 1 };
-    /// 2: s is below 2 or above p.
+    /// 2: s or a radix is below 2 or above p.
     pub const RADIX: Refusal = Refusal { number: 2 };
-    /// 3: n, L, t, C or s^n is out of range.
+    /// 3: n, L, t, C or the product of the radices is out of range.
     pub const RANGE: Refusal = Refusal { number: 3 };
-    /// 4: a part has another length than the plan says.
+    /// 4: a part, the radices among them, has another length than the plan says.
     pub const LENGTH: Refusal = Refusal { number: 4 };
     /// 5: a weight, a table value or a given coefficient is not below p.
     pub const NO_RESIDUE: Refusal = Refusal { number: 5 };
     /// 6: the store is not in reduced form.
     pub const DAMAGED: Refusal = Refusal { number: 6 };
-    /// 7: the entry is not below s^n.
+    /// 7: the entry is not below the product of the radices.
     pub const NO_ENTRY: Refusal = Refusal { number: 7 };
     /// 8: the value is not below s.
     pub const NO_VALUE: Refusal = Refusal { number: 8 };
@@ -44,7 +44,7 @@ impl Refusal {
     pub const NO_ROOM: Refusal = Refusal { number: 10 };
     /// 11: the step list is malformed.
     pub const STEPS: Refusal = Refusal { number: 11 };
-    /// 12: a digit is not below s.
+    /// 12: a digit is not below its own radix.
     pub const NO_DIGIT: Refusal = Refusal { number: 12 };
 
     /// The answer of a call as a result: 0 is acceptance.
@@ -64,17 +64,17 @@ impl Refusal {
     pub fn sentence(self) -> &'static str {
         match self.number {
             1 => "p is no odd prime from 3 to 251",
-            2 => "s is below 2 or above p",
-            3 => "n, L, t, C or s^n is out of range",
+            2 => "s or a radix is below 2 or above p",
+            3 => "n, L, t, C or the product of the radices is out of range",
             4 => "a part has another length than the plan says",
             5 => "a weight, a table value or a given coefficient is not below p",
             6 => "the store is not in reduced form",
-            7 => "the entry is not below s^n",
+            7 => "the entry is not below the product of the radices",
             8 => "the value is not below s",
             9 => "no coefficients reproduce the entry together with all kept before",
             10 => "the step slice is shorter than 4 times the step count",
             11 => "the step list is malformed",
-            12 => "a digit is not below s",
+            12 => "a digit is not below its own radix",
             _ => "a cause that has no sentence here",
         }
     }
