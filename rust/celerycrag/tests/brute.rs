@@ -4,7 +4,7 @@
 
 mod common;
 use celerycrag::raw;
-use common::plans::Owned;
+use common::plans::{product, radices, Owned};
 use common::random::{cases, Random};
 
 /// Every list of C residues modulo p.
@@ -140,8 +140,11 @@ fn list(random: &mut Random, plan: &Owned, length: usize) -> Vec<(usize, usize)>
 #[test]
 fn random_tiny_plans() {
     cases("tiny plans", 1_000, |random| {
-        let shape = random.pick(&TINY);
-        let plan = Owned::random(random, shape);
+        let mut plan = Owned::zeros(random.pick(&TINY));
+        if random.one_in(2) {
+            plan.radices = radices(random, plan.p, plan.n);
+        }
+        let plan = plan.drawn(random);
         let list = list(random, &plan, 10);
         check_list(&plan, &list);
     });
@@ -188,6 +191,76 @@ fn every_plan_of_one_digit_and_one_link() {
                 check_list(&plan, &[(0, table & 1), (1, table >> 1), (0, 1), (1, 1)]);
             }
         }
+    }
+}
+
+#[test]
+fn every_table_of_a_trit_and_a_bit() {
+    // Either order of the radices, every value of every entry, one d.
+    for order in [[3, 2], [2, 3]] {
+        let plan = Owned::xor().with_radices(&order);
+        for table in 0..64 {
+            let list: Vec<(usize, usize)> = (0..6).map(|i| (i, table >> i & 1)).collect();
+            check_list(&plan, &list);
+        }
+    }
+}
+
+/// Counts through the digits, the last the fastest: entry after entry has the
+/// digits that the count shows, and where the count is through, no entry is
+/// left. The run takes these digits, and no digit as large as its radix.
+fn count_through(plan: &Owned) {
+    let mut digits = vec![0; plan.n];
+    let mut row = vec![0; plan.columns()];
+    let run = |digits: &[u8]| raw::run(plan.lent(), &[], digits, &mut 0, &mut 0);
+    let mut entry = 0;
+    loop {
+        assert_eq!(raw::row(plan.lent(), entry, &mut row), 0, "{plan:?}");
+        assert_eq!(row[..plan.n], digits, "entry {entry} of {plan:?}");
+        assert_eq!(run(&digits), 0, "entry {entry} of {plan:?}");
+        entry += 1;
+        let mut place = plan.n;
+        while place > 0 {
+            place -= 1;
+            digits[place] += 1;
+            if digits[place] < plan.radices[place] {
+                break;
+            }
+            assert_eq!(run(&digits), 12, "{digits:?} of {plan:?}");
+            digits[place] = 0;
+        }
+        if digits.iter().all(|&digit| digit == 0) {
+            break;
+        }
+    }
+    assert_eq!(raw::row(plan.lent(), entry, &mut row), 7, "{plan:?}");
+    assert_eq!(entry, plan.entries());
+}
+
+#[test]
+fn entries_count_through_their_digits() {
+    // Every list of up to four radices from 2 to 7, and some of many entries.
+    for n in 1..=4 {
+        for number in 0..6usize.pow(n as u32) {
+            let list: Vec<u8> = (0..n as u32)
+                .map(|j| (number / 6usize.pow(j) % 6) as u8 + 2)
+                .collect();
+            count_through(&Owned::zeros([7, 2, n, 0, 0]).with_radices(&list));
+        }
+    }
+    let many: [&[u8]; 8] = [
+        &[251],
+        &[12, 2],
+        &[2, 12],
+        &[251, 16],
+        &[16, 251],
+        &[12, 31, 2],
+        &[2, 64, 32],
+        &[2, 3, 2, 2, 2, 2, 2, 2, 2, 2, 2],
+    ];
+    for list in many {
+        assert!(product(list) <= 4_096);
+        count_through(&Owned::zeros([251, 2, list.len(), 0, 0]).with_radices(list));
     }
 }
 

@@ -13,8 +13,8 @@ fn numbers(line: &str) -> Vec<usize> {
     line.split(' ').map(number).collect()
 }
 
-/// So many lines of residues, one after another.
-fn residues<'a>(lines: impl Iterator<Item = &'a str>) -> Vec<u8> {
+/// Lines of radices or residues, one after another.
+fn bytes<'a>(lines: impl Iterator<Item = &'a str>) -> Vec<u8> {
     lines.flat_map(numbers).map(|x| x as u8).collect()
 }
 
@@ -23,13 +23,14 @@ fn listing(text: &str) -> String {
     let lines: Vec<&str> = text.lines().collect();
     let values = numbers(lines[1]);
     let [p, s, n, m, t] = values[..].try_into().expect("five numbers");
-    let (links, rest) = lines[2..].split_at(2 * m);
+    let (links, rest) = lines[3..].split_at(2 * m);
     let (products, entries) = rest.split_at(t);
     let plan = Plan::new(
         Shape { p, s, n, m, t },
-        residues(links.iter().copied().step_by(2)),
-        residues(links.iter().copied().skip(1).step_by(2)),
-        residues(products.iter().copied()),
+        bytes([lines[2]].into_iter()),
+        bytes(links.iter().copied().step_by(2)),
+        bytes(links.iter().copied().skip(1).step_by(2)),
+        bytes(products.iter().copied()),
     );
     let plan = plan.expect("a plan");
 

@@ -3,11 +3,12 @@
 
 mod common;
 use common::lots::pairs;
-use common::plans::{shape, Owned};
+use common::plans::{outline, Owned};
 use common::program::program;
 use common::random::{cases, Random};
 use common::tally::Tally;
-use common::texts::{spoil, text};
+use common::texts::{radices, spoil, text};
+use std::collections::BTreeSet;
 use std::fs;
 use std::io::{ErrorKind, Write};
 use std::path::{Path, PathBuf};
@@ -18,7 +19,8 @@ use std::time::Duration;
 const ROOT: &str = concat!(env!("CARGO_MANIFEST_DIR"), "/../..");
 /// The refusals that a text can meet.
 const CAUSES: [(&str, &[u8]); 1] = [("filing", &[1, 2, 3, 5, 7, 8, 9, 13, 14])];
-/// Shapes p s n m t of about as many columns as a text may have; two have more.
+/// Shapes p s n m t of about as many columns as a text may have, with s for
+/// every radix; two have more columns.
 const LARGEST: [[usize; 5]; 9] = [
     [3, 2, 2, 49, 4],
     [251, 251, 1, 50, 4],
@@ -29,6 +31,14 @@ const LARGEST: [[usize; 5]; 9] = [
     [251, 2, 1, 63, 2],
     [3, 2, 2, 62, 3],
     [251, 2, 12, 52, 15],
+];
+/// The same with their radices, up to 4,096 entries and beyond.
+const MIXED: [([usize; 5], &[u8]); 5] = [
+    ([31, 2, 3, 60, 3], &[12, 31, 2]),
+    ([251, 251, 2, 49, 4], &[16, 251]),
+    ([67, 3, 2, 49, 4], &[63, 65]),
+    ([241, 3, 2, 49, 4], &[17, 241]),
+    ([3, 3, 11, 6, 14], &[2, 2, 2, 2, 2, 3, 2, 2, 2, 2, 2]),
 ];
 
 /// The program, started, with pipes to and from it.
@@ -81,23 +91,26 @@ fn agree(pieces: &[&[u8]], tally: &mut Tally) -> Vec<u8> {
         printed.escape_ascii(),
         expected.escape_ascii()
     );
-    tally.add("filing", refusal(&expected));
+    tally.add("filing", refusal(&expected).0);
     printed
 }
 
-/// The number of the refusal that is printed, or 0.
-fn refusal(printed: &[u8]) -> u8 {
+/// The number and the line of the refusal that is printed, or 0 and 0.
+fn refusal(printed: &[u8]) -> (u8, u64) {
     let printed = String::from_utf8_lossy(printed);
     let words = printed.strip_prefix("refusal line\n");
-    words.map_or(0, |words| {
-        let number = words.split(' ').next().expect("a word");
-        number.parse().expect("a number")
+    words.map_or((0, 0), |words| {
+        let (number, line) = words.trim_end().split_once(' ').expect("two words");
+        (
+            number.parse().expect("a number"),
+            line.parse().expect("a line"),
+        )
     })
 }
 
 /// The text of a random plan with some of its entries, perhaps repeated.
-fn some_text(random: &mut Random, shape: [usize; 5], most_entries: usize) -> Vec<u8> {
-    let plan = Owned::random(random, shape);
+fn some_text(random: &mut Random, plan: Owned, most_entries: usize) -> Vec<u8> {
+    let plan = plan.drawn(random);
     let count = random.below(most_entries + 1);
     let entries: Vec<usize> = (0..count).map(|_| random.below(plan.entries())).collect();
     text(&plan, &pairs(random, &plan, entries))
@@ -106,8 +119,8 @@ fn some_text(random: &mut Random, shape: [usize; 5], most_entries: usize) -> Vec
 /// The text of a small plan.
 fn small_text(random: &mut Random) -> Vec<u8> {
     let most_columns = random.pick(&[6, 12, 30]);
-    let shape = shape(random, most_columns);
-    some_text(random, shape, 20)
+    let plan = outline(random, most_columns);
+    some_text(random, plan, 20)
 }
 
 #[test]
@@ -129,6 +142,23 @@ fn spoiled_texts() {
         agree(&[&text], &mut tally);
     });
     tally.complete(&CAUSES, 2_000);
+}
+
+#[test]
+fn lines_of_radices() {
+    let mut tally = Tally::default();
+    let mut on_line_3 = BTreeSet::new();
+    cases("lines of radices", 100, |random| {
+        let mut text = small_text(random);
+        radices(random, &mut text);
+        let (number, line) = refusal(&agree(&[&text], &mut tally));
+        if line == 3 {
+            on_line_3.insert(number);
+        }
+    });
+    if tally.total() >= 500 {
+        assert_eq!(on_line_3, BTreeSet::from([2, 3, 13]));
+    }
 }
 
 #[test]
@@ -154,8 +184,13 @@ fn texts_in_pieces() {
 fn the_largest_shapes() {
     let mut tally = Tally::default();
     cases("the largest texts", 4, |random| {
-        let shape = random.pick(&LARGEST);
-        let mut text = some_text(random, shape, 6);
+        let plan = if random.one_in(2) {
+            Owned::zeros(random.pick(&LARGEST))
+        } else {
+            let (shape, radices) = random.pick(&MIXED);
+            Owned::zeros(shape).with_radices(radices)
+        };
+        let mut text = some_text(random, plan, 6);
         if random.one_in(3) {
             spoil(random, &mut text);
         }
@@ -182,7 +217,7 @@ fn a_long_text() {
     let printed = agree(&[&long], &mut tally);
     assert_eq!(printed, prints(&[&text(&Owned::xor(), &kept)]));
     let refused = agree(&[&long, b"2 0\n"], &mut tally);
-    assert_eq!(refused, b"refusal line\n9 200005\n");
+    assert_eq!(refused, b"refusal line\n9 200006\n");
 }
 
 /// The plan texts in a directory.

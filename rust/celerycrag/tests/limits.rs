@@ -5,12 +5,12 @@
 mod common;
 use common::faults::fault;
 use common::lots::lot_of;
-use common::plans::{primes, reduced, Owned};
+use common::plans::{outline, primes, product, reduced, Owned};
 use common::random::{cases, Random};
 use common::tally::Tally;
 use common::twins::{self, Lot};
 
-/// Shapes p s n m t at the limits of L, t, C and s^n.
+/// Shapes p s n m t at the limits of L, t, C and s^n, with s for every radix.
 const LARGEST: [[usize; 5]; 12] = [
     [251, 2, 12, 52, 15],
     [3, 2, 12, 52, 15],
@@ -25,12 +25,22 @@ const LARGEST: [[usize; 5]; 12] = [
     [11, 8, 4, 36, 24],
     [31, 2, 12, 20, 31],
 ];
+/// Shapes with radices of their own, whose product is at the limit or near.
+const MIXED: [([usize; 5], &[u8]); 6] = [
+    ([67, 67, 2, 62, 15], &[63, 65]),
+    ([251, 2, 2, 62, 15], &[251, 16]),
+    ([251, 251, 2, 62, 15], &[2, 251]),
+    ([17, 2, 11, 53, 15], &[2, 2, 2, 2, 2, 4, 2, 2, 2, 2, 2]),
+    ([31, 4, 3, 59, 11], &[12, 31, 2]),
+    ([241, 3, 5, 26, 32], &[2, 3, 4, 5, 34]),
+];
 
-/// All nine calls on a lot of this shape, a few more filings, and a program.
-fn large(random: &mut Random, shape: [usize; 5], tally: &mut Tally) {
-    let mut lot = lot_of(random, shape);
+/// All nine calls on a lot of this plan with other residues, a few more
+/// filings, and a program.
+fn large(random: &mut Random, plan: Owned, tally: &mut Tally) {
+    let mut lot = lot_of(random, plan);
     let plan = lot.plan.clone();
-    assert_eq!(twins::check(&plan, tally), 0, "{shape:?}");
+    assert_eq!(twins::check(&plan, tally), 0, "{:?}", plan.lent());
     twins::all(&lot, tally);
 
     let mut kept = Vec::new();
@@ -66,8 +76,13 @@ fn large(random: &mut Random, shape: [usize; 5], tally: &mut Tally) {
 fn the_largest_shapes() {
     let mut tally = Tally::default();
     cases("the largest shapes", 3, |random| {
-        let shape = random.pick(&LARGEST);
-        large(random, shape, &mut tally);
+        let plan = if random.one_in(2) {
+            Owned::zeros(random.pick(&LARGEST))
+        } else {
+            let (shape, radices) = random.pick(&MIXED);
+            Owned::zeros(shape).with_radices(radices)
+        };
+        large(random, plan, &mut tally);
     });
 }
 
@@ -76,8 +91,11 @@ fn c_1024() {
     let mut tally = Tally::default();
     let mut random = Random::new(1, 0);
     for shape in [LARGEST[0], LARGEST[1]] {
-        large(&mut random, shape, &mut tally);
+        large(&mut random, Owned::zeros(shape), &mut tally);
     }
+    let (shape, radices) = MIXED[0];
+    let plan = Owned::zeros(shape).with_radices(radices);
+    large(&mut random, plan, &mut tally);
 }
 
 /// The largest numbers that the sums can meet: all bytes p - 1.
@@ -160,6 +178,116 @@ fn every_residue_of_every_prime() {
             }
         }
     }
+}
+
+/// Radices whose product is 1,024 modulo 2^64.
+const WRAPS: [u8; 30] = [
+    49, 221, 185, 13, 193, 157, 13, 189, 185, 101, 25, 213, 157, 233, 129, 173, 17, 81, 137, 109,
+    141, 13, 57, 149, 161, 101, 53, 101, 32, 32,
+];
+
+/// Lists of radices at and beside every limit: of their size, of their number,
+/// and of their product, with products that only look small where they wrap.
+fn lists_of_radices(p: usize) -> Vec<Vec<u8>> {
+    let byte = |number: usize| number.min(255) as u8;
+    let mut lists: Vec<Vec<u8>> = vec![vec![], vec![64, 64, 64], vec![67, 67, 68]];
+    // 4,095, 4,096 and 4,097 in different ways.
+    lists.extend([
+        vec![63, 65],
+        vec![65, 63],
+        vec![3, 3, 5, 7, 13],
+        vec![64, 64],
+        vec![16, 16, 16],
+        vec![2, 128, 16],
+        vec![17, 241],
+        vec![241, 17],
+        vec![2, 2, 2, 2, 2, 2, 2, 2, 2, 2, 2, 2, 1],
+    ]);
+    // 844 modulo 2^32, and 1,024 modulo 2^64.
+    lists.push(vec![146, 215, 86, 43, 37]);
+    lists.push(WRAPS.to_vec());
+    for radix in [0, 1, 2, 3, 4, 16, 64, 128, p - 1, p, p + 1, 251, 252, 255] {
+        for count in [
+            1, 2, 3, 4, 11, 12, 13, 16, 32, 33, 63, 64, 65, 128, 255, 256, 4_097,
+        ] {
+            lists.push(vec![byte(radix); count]);
+        }
+    }
+    // One bad radix behind, before and amid as many as any product may have.
+    for bad in [0, 1, p + 1, 255] {
+        for place in [0, 1, 12, 63] {
+            let mut list = vec![byte(p); 63];
+            list.insert(place, byte(bad));
+            lists.push(list);
+            let mut list = vec![2, 2];
+            list.insert(place.min(2), byte(bad));
+            lists.push(list);
+        }
+    }
+    lists
+}
+
+#[test]
+fn radices_at_the_limits() {
+    let wrapped = |product: u64, &radix: &u8| product.wrapping_mul(radix.into());
+    assert_eq!(WRAPS.iter().fold(1, wrapped), 1_024);
+    let mut tally = Tally::default();
+    for p in [3, 5, 17, 67, 127, 241, 251] {
+        for list in lists_of_radices(p) {
+            for n in [1, 2, 3, 11, 12, 13, 63, 64, 65, list.len().clamp(1, 64)] {
+                let plan = Owned::zeros([p, 2, n, 0, 0]).with_radices(&list);
+                let answer = twins::check(&plan, &mut tally);
+                let fits = |&radix: &u8| (2..=p).contains(&usize::from(radix));
+                let expected = match () {
+                    () if !list.iter().all(fits) => 2,
+                    () if n > 64 || product(&list) > 4_096 => 3,
+                    () if list.len() != n => 4,
+                    () => 0,
+                };
+                assert_eq!(answer, expected, "p = {p}, n = {n}, radices {list:?}");
+            }
+        }
+    }
+}
+
+/// The same lists in all nine calls, where the rest of a lot fits n digits.
+#[test]
+fn radices_at_the_limits_in_every_call() {
+    let mut tally = Tally::default();
+    let mut random = Random::new(2, 0);
+    for n in [1, 2, 3, 12] {
+        for list in lists_of_radices(67) {
+            let mut lot = lot_of(&mut random, Owned::zeros([67, 2, n, 1, 1]));
+            lot.plan.radices = list;
+            twins::all(&lot, &mut tally);
+        }
+    }
+}
+
+/// s bounds values alone: any s from 2 to p goes with any radices, and only
+/// filing looks at it.
+#[test]
+fn s_and_the_radices_are_apart() {
+    let mut tally = Tally::default();
+    cases("s apart from the radices", 20, |random| {
+        let plan = outline(random, 12).drawn(random);
+        let mut rows = Vec::new();
+        for s in 2..=plan.p {
+            let plan = Owned { s, ..plan.clone() };
+            assert_eq!(twins::check(&plan, &mut tally), 0);
+            let mut row = vec![0; plan.columns()];
+            let entry = plan.entries() - 1;
+            assert_eq!(twins::row(&plan, entry, &mut row, &mut tally), 0);
+            rows.push(row);
+            let mut store = plan.empty_store();
+            let most = twins::file(&plan, &mut store, entry, s - 1, &mut tally);
+            assert!(matches!(most, Ok(_) | Err(9)));
+            let over = twins::file(&plan, &mut store, entry, s, &mut tally);
+            assert_eq!(over, Err(8));
+        }
+        rows.dedup();
+        assert_eq!(rows.len(), 1);
+    });
 }
 
 /// The five numbers alone, at and beside every limit.

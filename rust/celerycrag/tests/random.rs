@@ -4,9 +4,9 @@
 //!     CELERYCRAG_CASES=100000 CELERYCRAG_SEED=7 cargo test --release --test random -- --nocapture
 
 mod common;
-use common::faults::fault;
+use common::faults::{fault, no_radix};
 use common::lots::{lot, noise, pairs};
-use common::plans::{shape, Owned};
+use common::plans::{outline, product, Owned};
 use common::random::{cases, Random};
 use common::tally::{Tally, CAUSES};
 use common::twins::{self, Lot};
@@ -87,13 +87,12 @@ fn whole_tables() {
     let mut tally = Tally::default();
     cases("whole tables", 1_000, |random| {
         // Long tables take long in the reference; a few are enough.
-        let shape = loop {
-            let shape = shape(random, 40);
-            if Owned::zeros(shape).entries() <= 64 || random.one_in(12) {
-                break shape;
+        let plan = loop {
+            let plan = outline(random, 40);
+            if plan.entries() <= 64 || random.one_in(12) {
+                break plan.drawn(random);
             }
         };
-        let plan = Owned::random(random, shape);
         whole_table(random, &plan, &mut tally);
     });
 }
@@ -109,6 +108,59 @@ fn calls_with_faults() {
         twins::all(&lot, &mut tally);
     });
     tally.complete(&CAUSES, 50_000);
+}
+
+/// Radices that are wrong in one way, and the answer of every call to them,
+/// where all else is right.
+fn wrong_radices(random: &mut Random, plan: &Owned) -> (Vec<u8>, u8) {
+    let mut radices = plan.radices.clone();
+    let place = random.below(plan.n);
+    match random.below(7) {
+        // One too many, which may also make too many entries; and one too few.
+        0 => {
+            radices.insert(place, random.within(2, plan.p) as u8);
+            let answer = if product(&radices) > 4_096 { 3 } else { 4 };
+            (radices, answer)
+        }
+        1 => {
+            radices.remove(place);
+            (radices, 4)
+        }
+        2 => (vec![], 4),
+        // One out of range, among n, among too many, and among too many entries.
+        3 => {
+            radices[place] = no_radix(random, plan.p);
+            (radices, 2)
+        }
+        4 => {
+            radices.insert(place, no_radix(random, plan.p));
+            (radices, 2)
+        }
+        5 => {
+            radices.resize(plan.n + 13, plan.p as u8);
+            radices.insert(random.below(plan.n + 14), no_radix(random, plan.p));
+            (radices, 2)
+        }
+        // Too many entries.
+        _ => {
+            let most = random.pick(&[13, 16, 32, 64, 300]);
+            let radix = random.pick(&[2, plan.p.min(4), plan.p.min(16), plan.p]);
+            radices.resize(plan.n + most, radix as u8);
+            (radices, 3)
+        }
+    }
+}
+
+#[test]
+fn wrong_radices_in_every_call() {
+    cases("wrong radices", 300, |random| {
+        let mut lot = lot(random, 30);
+        let (radices, answer) = wrong_radices(random, &lot.plan);
+        lot.plan.radices = radices;
+        let mut tally = Tally::default();
+        twins::all(&lot, &mut tally);
+        assert!(tally.only(answer), "not {answer} alone: {:?}", lot.plan);
+    });
 }
 
 #[test]

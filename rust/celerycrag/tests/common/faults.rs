@@ -1,6 +1,6 @@
 //! What can be wrong with a lot.
 
-use super::plans::Owned;
+use super::plans::{product, Owned};
 use super::random::Random;
 use super::twins::Lot;
 
@@ -63,16 +63,17 @@ fn another(random: &mut Random, right: usize) -> usize {
 
 /// Makes one thing wrong, or at least likely to be.
 pub fn fault(random: &mut Random, lot: &mut Lot) {
-    match random.below(12) {
+    match random.below(14) {
         0 => number(random, &mut lot.plan),
         1 => wrap(random, &mut lot.plan),
         2 | 3 => length(random, lot),
         4 | 5 => large_byte(random, lot),
         6 | 7 => damage(random, lot),
-        8 => lot.entry = another(random, lot.plan.s.saturating_pow(lot.plan.n.min(99) as u32)),
+        8 => lot.entry = another(random, product(&lot.plan.radices)),
         9 => lot.value = another(random, lot.plan.s),
         10 => bad_step(random, lot),
-        _ => bad_digit(random, lot),
+        11 => bad_digit(random, lot),
+        _ => radices(random, &mut lot.plan),
     }
 }
 
@@ -107,7 +108,32 @@ fn wrap(random: &mut Random, plan: &mut Owned) {
     }
 }
 
-/// A part in another length. The step slices belong to causes 10 and 11.
+/// What is no radix under p, whatever else is right.
+pub fn no_radix(random: &mut Random, p: usize) -> u8 {
+    random.pick(&[0, 1, p.saturating_add(1), 255]).min(255) as u8
+}
+
+/// A radix too many or too few, one that is none, or so large ones that the
+/// entries are too many. Some of these may still be in order.
+fn radices(random: &mut Random, plan: &mut Owned) {
+    let p = plan.p;
+    let place = random.below(plan.radices.len() + 1);
+    match random.below(6) {
+        0 => plan.radices.insert(place, 2),
+        1 => drop(plan.radices.pop()),
+        2 => plan.radices.insert(place, no_radix(random, p)),
+        3 => plan.radices.fill(p.min(255) as u8),
+        4 => plan.radices.resize(random.pick(&[12, 13, 64, 65]), 2),
+        _ => {
+            if let Some(radix) = plan.radices.get_mut(place) {
+                *radix = no_radix(random, p);
+            }
+        }
+    }
+}
+
+/// A part in another length, the radices apart. The step slices belong to
+/// causes 10 and 11.
 fn length(random: &mut Random, lot: &mut Lot) {
     match random.below(9) {
         0 => relength(random, &mut lot.plan.weights),
@@ -219,12 +245,16 @@ fn bad_step(random: &mut Random, lot: &mut Lot) {
     }
 }
 
-/// A digit that is not below s, though perhaps a residue.
+/// A digit that is not below its radix, or one that is compared with something
+/// else in its place.
 fn bad_digit(random: &mut Random, lot: &mut Lot) {
     if lot.digits.is_empty() {
         return;
     }
     let place = random.below(lot.digits.len());
-    let digit = random.pick(&[lot.plan.s, lot.plan.p, lot.plan.p.wrapping_sub(1), 255]);
-    lot.digits[place] = digit.min(255) as u8;
+    let radix = lot.plan.radices.get(place).copied().unwrap_or(255);
+    let other = lot.plan.radices.first().copied().unwrap_or(255);
+    let most = [lot.plan.s, lot.plan.p].map(|number| number.min(255) as u8);
+    let digit = random.pick(&[radix, other, most[0], most[1], 255]);
+    lot.digits[place] = digit.wrapping_sub(random.pick(&[0, 0, 0, 1]));
 }

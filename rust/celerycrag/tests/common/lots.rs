@@ -2,20 +2,20 @@
 //! entries with values.
 
 use super::faults::EDGES;
-use super::plans::{reduced, residues, shape, Owned};
+use super::plans::{outline, reduced, residues, Owned};
 use super::random::Random;
 use super::twins::Lot;
 use celerycrag::raw;
 
 /// A lot with nothing wrong, of a plan of at most so many columns.
 pub fn lot(random: &mut Random, most_columns: usize) -> Lot {
-    let shape = shape(random, most_columns);
-    lot_of(random, shape)
+    let plan = outline(random, most_columns);
+    lot_of(random, plan)
 }
 
-/// A lot with nothing wrong, of a random plan of this shape.
-pub fn lot_of(random: &mut Random, shape: [usize; 5]) -> Lot {
-    let plan = Owned::random(random, shape);
+/// A lot with nothing wrong, of this plan with other residues.
+pub fn lot_of(random: &mut Random, plan: Owned) -> Lot {
+    let plan = plan.drawn(random);
     let store = match random.below(4) {
         0 => plan.empty_store(),
         1 => filed(random, &plan),
@@ -43,7 +43,7 @@ pub fn lot_of(random: &mut Random, shape: [usize; 5]) -> Lot {
         beta,
         room,
         steps,
-        digits: random.bytes(plan.n, plan.s),
+        digits: plan.digits(random.below(plan.entries())),
         plan,
     }
 }
@@ -118,6 +118,10 @@ pub fn noise(random: &mut Random) -> Lot {
             let (count, k) = (random.below(count), random.pick(&[2, 3, 8, 256]));
             random.bytes(count, k)
         };
+        let count = random.below(5);
+        lot.plan.radices = (0..count)
+            .map(|_| random.pick(&[2, 2, 3, 3, 5, 16, 64, 255, 1, 0]))
+            .collect();
         lot.plan.weights = any(random, 5);
         lot.plan.tables = any(random, 12);
         lot.plan.d = any(random, 9);

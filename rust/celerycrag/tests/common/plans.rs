@@ -11,13 +11,15 @@ pub struct Owned {
     pub n: usize,
     pub m: usize,
     pub t: usize,
+    pub radices: Vec<u8>,
     pub weights: Vec<u8>,
     pub tables: Vec<u8>,
     pub d: Vec<u8>,
 }
 
 impl Owned {
-    /// A plan of this shape with parts of the right lengths, all zeros.
+    /// A plan of this shape with s for every radix, and the other parts of the
+    /// right lengths, all zeros.
     pub fn zeros([p, s, n, m, t]: [usize; 5]) -> Owned {
         Owned {
             p,
@@ -25,6 +27,8 @@ impl Owned {
             n,
             m,
             t,
+            // An s that is no byte is refused as 255 is.
+            radices: vec![s.min(255) as u8; n],
             weights: vec![0; (0..m).map(|k| n + k).sum()],
             tables: vec![0; m * p],
             d: vec![0; t * (n + m)],
@@ -39,10 +43,19 @@ impl Owned {
         }
     }
 
-    /// A plan of this shape with random parts: weights uniform or mostly zero,
-    /// link tables not affine, as the method asks, and seldom any.
-    pub fn random(random: &mut Random, shape: [usize; 5]) -> Owned {
-        let mut plan = Owned::zeros(shape);
+    /// The same with other radices, which need not be n.
+    pub fn with_radices(self, radices: &[u8]) -> Owned {
+        Owned {
+            radices: radices.to_vec(),
+            ..self
+        }
+    }
+
+    /// The plan with random residues for its weights, tables and d: weights
+    /// uniform or mostly zero, link tables not affine, as the method asks, and
+    /// seldom any.
+    pub fn drawn(self, random: &mut Random) -> Owned {
+        let mut plan = self;
         let p = plan.p;
         plan.weights = residues(random, plan.weights.len(), p);
         plan.d = residues(random, plan.d.len(), p);
@@ -64,6 +77,7 @@ impl Owned {
             n: self.n,
             m: self.m,
             t: self.t,
+            radices: &self.radices,
             weights: &self.weights,
             tables: &self.tables,
             d: &self.d,
@@ -91,7 +105,7 @@ impl Owned {
     }
 
     pub fn entries(&self) -> usize {
-        self.s.pow(self.n as u32)
+        product(&self.radices)
     }
 
     pub fn bootstraps(&self) -> usize {
@@ -107,10 +121,17 @@ impl Owned {
         vec![0; self.columns() * (self.columns() + 1)]
     }
 
-    /// The digits of an entry, found from the left by falling powers of s.
+    /// The digits of an entry, found from the left: each is what the product
+    /// of the radices behind it goes into the rest.
     pub fn digits(&self, entry: usize) -> Vec<u8> {
-        let powers = (0..self.n as u32).rev().map(|place| self.s.pow(place));
-        powers.map(|power| (entry / power % self.s) as u8).collect()
+        let mut rest = entry;
+        let mut digits = Vec::new();
+        for place in 1..=self.radices.len() {
+            let behind = product(&self.radices[place..]);
+            digits.push((rest / behind) as u8);
+            rest %= behind;
+        }
+        digits
     }
 
     /// The sum of products of two lists, modulo p.
@@ -118,6 +139,12 @@ impl Owned {
         let terms = row.iter().zip(beta).map(|(&x, &y)| x as usize * y as usize);
         (terms.sum::<usize>() % self.p) as u8
     }
+}
+
+/// The product of radices, at most `usize::MAX`.
+pub fn product(radices: &[u8]) -> usize {
+    let radices = radices.iter().map(|&radix| usize::from(radix));
+    radices.fold(1, usize::saturating_mul)
 }
 
 /// Residues of one kind or another: uniform, mostly zero, or small and large
@@ -160,27 +187,42 @@ pub fn primes() -> Vec<usize> {
         .collect()
 }
 
-/// A shape p s n m t that passes, with at most so many columns.
-pub fn shape(random: &mut Random, most_columns: usize) -> [usize; 5] {
+/// A number from 2 to p, often p itself or a small one.
+fn radix(random: &mut Random, p: usize) -> usize {
+    match random.below(4) {
+        0 => p,
+        1 => random.within(2, p),
+        _ => random.within(2, p.min(5)),
+    }
+}
+
+/// Radices for each of n digits, from 2 to p.
+pub fn radices(random: &mut Random, p: usize, n: usize) -> Vec<u8> {
+    (0..n).map(|_| radix(random, p) as u8).collect()
+}
+
+/// A plan that passes, with at most so many columns, its residues all zero.
+/// Every other one has s for every radix, the rest a radix of its own for each
+/// digit.
+pub fn outline(random: &mut Random, most_columns: usize) -> Owned {
+    let mixed = random.one_in(2);
     loop {
         let p = match random.below(3) {
             0 => random.pick(&[3, 3, 5, 7]),
             1 => random.pick(&[17, 31, 127, 241, 251]),
             _ => random.pick(&primes()),
         };
-        let s = match random.below(4) {
-            0 => p,
-            1 => random.within(2, p),
-            _ => random.within(2, p.min(5)),
-        };
-        let n = random.within(1, 8);
-        let entries = s.checked_pow(n as u32).unwrap_or(usize::MAX);
+        let (s, n) = (radix(random, p), random.within(1, 8));
         let (m, t) = (
             random.below(9),
             random.pick(&[0, 0, 1, 1, 2, 2, 3, 4, 6, 12]),
         );
-        if entries <= 4_096 && (t + 1) * (n + m) <= most_columns {
-            return [p, s, n, m, t];
+        let mut plan = Owned::zeros([p, s, n, m, t]);
+        if mixed {
+            plan.radices = radices(random, p, n);
+        }
+        if plan.entries() <= 4_096 && plan.columns() <= most_columns {
+            return plan;
         }
     }
 }

@@ -26,6 +26,18 @@ impl Tally {
         *self.counts.entry((call, answer)).or_default() += 1;
     }
 
+    /// How many calls were made.
+    pub fn total(&self) -> u64 {
+        self.counts.values().sum()
+    }
+
+    /// Whether every call of the causes' list was made, and gave this answer
+    /// alone.
+    pub fn only(&self, answer: u8) -> bool {
+        let every = CAUSES.iter().all(|(call, _)| self.count(call, answer) > 0);
+        every && self.counts.keys().all(|&(_, given)| given == answer)
+    }
+
     fn count(&self, call: &'static str, answer: u8) -> u64 {
         self.counts.get(&(call, answer)).copied().unwrap_or(0)
     }
@@ -43,7 +55,7 @@ impl Tally {
             let counts: Vec<String> = counts.map(|k| self.count(call, k).to_string()).collect();
             println!("| {call} | {} |", counts.join(" | "));
         }
-        if self.counts.values().sum::<u64>() < enough {
+        if self.total() < enough {
             return;
         }
         for (call, causes) in calls {

@@ -19,6 +19,7 @@ const ENDS: [&[u8]; 6] = [b"\n", b" ", b"\0", b"0", b"0 0", b"entry value\n"];
 pub fn text(plan: &Owned, pairs: &[(usize, usize)]) -> Vec<u8> {
     let Owned { p, s, n, m, t, .. } = *plan;
     let mut text = format!("p s n links products\n{p} {s} {n} {m} {t}\n");
+    text += &line(&plan.radices);
     let mut weights = &plan.weights[..];
     for (k, table) in plan.tables.chunks(p).enumerate() {
         let (link, rest) = weights.split_at(n + k);
@@ -43,7 +44,7 @@ fn line(numbers: &[u8]) -> String {
 
 /// Makes one thing wrong, or at least likely to be.
 pub fn spoil(random: &mut Random, text: &mut Vec<u8>) {
-    match random.below(16) {
+    match random.below(18) {
         0 | 1 => byte(random, text),
         2 | 3 => lines(random, text),
         4..=9 => number(random, text),
@@ -52,6 +53,7 @@ pub fn spoil(random: &mut Random, text: &mut Vec<u8>) {
         12 => piece(random, text),
         13 => noise(random, text),
         14 => text.extend_from_slice(random.pick(&ENDS)),
+        15 | 16 => radices(random, text),
         _ => *text = split(text, b'\n').join(&b"\r\n"[..]),
     }
 }
@@ -107,13 +109,13 @@ fn words(text: &mut Vec<u8>, place: usize, change: impl FnOnce(&mut Vec<Vec<u8>>
     *text = lines.join(&b'\n');
 }
 
-/// Another word in place of one, on the values line or on any.
+/// Another word in place of one, on the values line, the radices line or any.
 fn number(random: &mut Random, text: &mut Vec<u8>) {
     let lines = split(text, b'\n').len();
-    let place = if random.one_in(3) {
-        1
-    } else {
-        random.below(lines)
+    let place = match random.below(6) {
+        0 | 1 => 1,
+        2 => 2,
+        _ => random.below(lines),
     };
     words(text, place, |words| {
         let word = match random.below(6) {
@@ -137,6 +139,47 @@ fn columns(random: &mut Random, text: &mut Vec<u8>) {
             *word = random.within(0, most).to_string().into_bytes();
         }
     });
+}
+
+/// Another line of radices: as many as the plan has digits, or not, and
+/// sometimes more than a line may hold. Sometimes the values line asks for that
+/// many.
+pub fn radices(random: &mut Random, text: &mut Vec<u8>) {
+    let digits = |text: &Vec<u8>| {
+        let values = split(text, b'\n').into_iter().nth(1)?;
+        let n = split(&values, b' ').into_iter().nth(2)?;
+        String::from_utf8(n).ok()?.parse::<usize>().ok()
+    };
+    let right = digits(text).unwrap_or(2).min(70);
+    let count = match random.below(8) {
+        0 => right + 1,
+        1 => right.saturating_sub(1),
+        2 => random.within(1, 64),
+        3 => random.within(170, 600),
+        _ => right,
+    };
+    let most = random.pick(&[3, 5, 17, 251, 300]);
+    let mut line: Vec<Vec<u8>> = (0..count)
+        .map(|_| random.within(2, most).to_string().into_bytes())
+        .collect();
+    if random.one_in(3) && count > 0 {
+        let place = random.below(count);
+        let word = match random.below(4) {
+            0 => random.pick(&["0", "1", "255", "256", "258", "65536", "65538", "99999"]),
+            1 => random.pick(&WORDS),
+            2 => random.pick(&["252", "254", "4097", "65537", "02", "2.", "-2"]),
+            _ => "1",
+        };
+        line[place] = word.as_bytes().to_vec();
+    }
+    words(text, 2, |words| *words = line);
+    if random.one_in(4) {
+        words(text, 1, |words| {
+            for word in words.iter_mut().skip(2).take(1) {
+                *word = count.to_string().into_bytes();
+            }
+        });
+    }
 }
 
 /// A piece of the text put in somewhere, or taken out.

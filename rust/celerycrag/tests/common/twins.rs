@@ -35,7 +35,7 @@ macro_rules! by_reference {
         let plan: &Owned = $plan;
         reference::$name(
             plan.p as u64, plan.s as u64, plan.n as u64, plan.m as u64, plan.t as u64,
-            &plan.weights, &plan.tables, &plan.d $(, $own)*
+            &plan.radices, &plan.weights, &plan.tables, &plan.d $(, $own)*
         )
     }};
 }
