@@ -2,26 +2,35 @@
 //! whole table files without contradiction, and prints the plan text with all
 //! entries, as the filing program reads it.
 //!
-//!     find_plan p s n m t seed [value ...]
+//!     find_plan [-r radix,radix,..] p s n m t seed [value ...]
 //!
-//! The values are those of the entries 0 to s^n - 1. Where none are given as
-//! arguments, they are read from standard input, with any white space between.
-//! Weights and d rows are drawn uniformly, link tables uniformly among those
-//! that are not affine. The same seed finds the same plan. The seed and the
-//! number of plans drawn are printed on standard error.
+//! The radices are those of the n digits, the most significant first, with a
+//! comma between; where none are given, each is s. The values, below s, are
+//! those of all entries in order, as many as the product of the radices. Where
+//! none are given as arguments, they are read from standard input, with any
+//! white space between. Weights and d rows are drawn uniformly, link tables
+//! uniformly among those that are not affine. The same seed finds the same plan.
+//! The seed and the number of plans drawn are printed on standard error.
 //!
 //! The search goes on until it finds a plan. With L = n + m and t at most L, a
 //! plan has at most (t+1)L - t(t-1)/2 independent columns, and each that is
-//! missing to the s^n entries makes a fitting plan about p times rarer. With
-//! no links, entry 0 can only be 0.
+//! missing to the number of entries makes a fitting plan about p times rarer.
+//! With no links, entry 0 can only be 0.
 //!
 //!     echo 0 1 1 0 | cargo run --release --example find_plan -- 3 2 2 0 1 1
+//!
+//! A month of 12 and a bit, with the days of the month beyond 28 in a common
+//! year and in a leap year:
+//!
+//!     cargo run --release --example find_plan -- -r 12,2 13 4 2 6 2 1 \
+//!         3 3  0 1  3 3  2 2  3 3  2 2  3 3  3 3  2 2  3 3  2 2  3 3
 
 use celerycrag::{Plan, Shape, Store};
 use reference::random::SplitMix;
 use std::io::Read;
 use std::process::exit;
 
+const USAGE: &str = "find_plan [-r radix,radix,..] p s n m t seed [value ...]";
 /// The most columns of a plan text.
 const COLUMNS: usize = 255;
 
@@ -64,8 +73,8 @@ fn is_affine(p: usize, table: &[u8]) -> bool {
         .all(|(z, &value)| (first + slope * z) % p == value as usize)
 }
 
-/// Draws a plan of this shape, which was found to pass.
-fn draw(random: &mut Random, shape: Shape) -> Plan {
+/// Draws a plan of this shape and these radices, which were found to pass.
+fn draw(random: &mut Random, shape: Shape, radices: &[u8]) -> Plan {
     let Shape { p, n, m, t, .. } = shape;
     let (mut weights, mut tables) = (Vec::new(), Vec::new());
     for k in 0..m {
@@ -73,7 +82,8 @@ fn draw(random: &mut Random, shape: Shape) -> Plan {
         tables.extend(random.table(p));
     }
     let d = random.residues(p, t * (n + m));
-    Plan::new(shape, weights, tables, d).unwrap_or_else(|refusal| give_up(&refusal.to_string()))
+    let drawn = Plan::new(shape, radices.to_vec(), weights, tables, d);
+    drawn.unwrap_or_else(|refusal| give_up(&refusal.to_string()))
 }
 
 /// Whether the whole table files without contradiction.
@@ -87,6 +97,7 @@ fn files(plan: &Plan, values: &[usize]) -> bool {
 fn print(plan: &Plan, values: &[usize]) {
     let Shape { p, s, n, m, t } = plan.shape();
     println!("p s n links products\n{p} {s} {n} {m} {t}");
+    print_line(plan.radices());
     let mut weights = plan.weights().iter();
     for (k, table) in plan.tables().chunks(p).enumerate() {
         print_line(weights.by_ref().take(n + k));
@@ -113,27 +124,46 @@ fn give_up(message: &str) -> ! {
     exit(1)
 }
 
+/// Takes the radices off the arguments, where they are given.
+fn take_radices(arguments: &mut Vec<String>) -> Option<Vec<usize>> {
+    if arguments.first().map(String::as_str) != Some("-r") {
+        return None;
+    }
+    if arguments.len() < 2 {
+        give_up(USAGE);
+    }
+    let list = numbers(arguments[1].split(','));
+    arguments.drain(..2);
+    Some(list)
+}
+
 /// The words as numbers.
 fn numbers<'a>(words: impl Iterator<Item = &'a str>) -> Vec<usize> {
     let number = |word: &str| word.parse().unwrap_or_else(|_| give_up("not a number"));
     words.map(number).collect()
 }
 
-/// Gives up where no plan of the shape can file the table.
-fn check(shape: Shape, values: &[usize]) {
-    // With no part given, numbers that pass are accepted or refused for the
-    // length of a part, which is 4.
-    if let Err(refusal) = Plan::new(shape, vec![], vec![], vec![]) {
+/// Gives up where no plan of the shape and the radices can file the table.
+fn check(shape: Shape, radices: &[u8], values: &[usize]) {
+    // With no other part given, numbers and radices that pass are accepted or
+    // refused for the length of a part, which is 4.
+    if let Err(refusal) = Plan::new(shape, radices.to_vec(), vec![], vec![], vec![]) {
         if refusal.number() < 4 {
             give_up(&format!("the shape is {refusal}"));
         }
     }
     let Shape { s, n, m, t, .. } = shape;
+    if radices.len() != n {
+        give_up("there are not n radices");
+    }
     if (t + 1) * (n + m) > COLUMNS {
         give_up("the shape has more than 255 columns");
     }
-    if values.len() != s.pow(n as u32) {
-        give_up("the table has another number of values than s^n");
+    let entries: usize = radices.iter().map(|&radix| usize::from(radix)).product();
+    if values.len() != entries {
+        give_up(&format!(
+            "there are {entries} entries and not as many values"
+        ));
     }
     if values.iter().any(|&value| value >= s) {
         give_up("a value is not below s");
@@ -144,14 +174,20 @@ fn check(shape: Shape, values: &[usize]) {
 }
 
 fn main() {
-    let arguments: Vec<String> = std::env::args().skip(1).collect();
+    let mut arguments: Vec<String> = std::env::args().skip(1).collect();
+    let radices = take_radices(&mut arguments);
     let mut given = numbers(arguments.iter().map(String::as_str));
     if given.len() < 6 {
-        give_up("find_plan p s n m t seed [value ...]");
+        give_up(USAGE);
     }
     let mut values = given.split_off(6);
     let [p, s, n, m, t, seed] = given[..].try_into().expect("six numbers are left");
     let shape = Shape { p, s, n, m, t };
+    // As in Plan::with_radix: what is no byte is above p, and 65 digits are too
+    // many.
+    let radices = radices.unwrap_or_else(|| vec![s; n.min(65)]);
+    let byte = |radix: usize| u8::try_from(radix).unwrap_or(u8::MAX);
+    let radices: Vec<u8> = radices.into_iter().map(byte).collect();
     if values.is_empty() {
         let mut text = String::new();
         if std::io::stdin().read_to_string(&mut text).is_err() {
@@ -159,12 +195,12 @@ fn main() {
         }
         values = numbers(text.split_whitespace());
     }
-    check(shape, &values);
+    check(shape, &radices, &values);
 
     eprintln!("seed {seed}");
     let mut random = Random(SplitMix(seed as u64));
     for draws in 1u64.. {
-        let plan = draw(&mut random, shape);
+        let plan = draw(&mut random, shape, &radices);
         if files(&plan, &values) {
             eprintln!("draws {draws}");
             print(&plan, &values);

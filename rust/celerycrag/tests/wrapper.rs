@@ -1,6 +1,7 @@
 //! The types of the crate's root: what they give, what they refuse, and that
 //! they never panic.
 
+use celerycrag::raw::{self, Lent};
 use celerycrag::{Filed, Plan, Program, Ran, Refusal, Shape, Step, Store};
 use std::error::Error;
 
@@ -13,10 +14,10 @@ const XOR: Shape = Shape {
 };
 
 fn xor() -> Plan {
-    Plan::new(XOR, vec![], vec![], vec![1, 1]).expect("the plan of the exclusive or")
+    Plan::new(XOR, vec![2, 2], vec![], vec![], vec![1, 1]).expect("the plan of the exclusive or")
 }
 
-/// p s n m t = 5 3 2 1 1, with one link.
+/// p s n m t = 5 3 2 1 1, with the radices 4 2 and one link.
 fn linked() -> Plan {
     let shape = Shape {
         p: 5,
@@ -25,19 +26,21 @@ fn linked() -> Plan {
         m: 1,
         t: 1,
     };
-    Plan::new(shape, vec![1, 3], vec![4, 0, 0, 1, 2], vec![1, 0, 4]).expect("a plan")
+    let (weights, table, d) = (vec![1, 3], vec![4, 0, 0, 1, 2], vec![1, 0, 4]);
+    Plan::new(shape, vec![4, 2], weights, table, d).expect("a plan")
 }
 
 #[test]
 fn a_plan_keeps_what_it_was_given() {
     let plan = linked();
+    assert_eq!(plan.radices(), [4, 2]);
     assert_eq!(plan.weights(), [1, 3]);
     assert_eq!(plan.tables(), [4, 0, 0, 1, 2]);
     assert_eq!(plan.d(), [1, 0, 4]);
     assert_eq!((plan.shape().p, plan.shape().t), (5, 1));
     assert_eq!(
         (plan.variables(), plan.columns(), plan.entries()),
-        (3, 6, 9)
+        (3, 6, 8)
     );
     assert_eq!((plan.bootstraps(), plan.step_count()), (3, 26));
     assert_eq!(plan, plan.clone());
@@ -46,13 +49,104 @@ fn a_plan_keeps_what_it_was_given() {
 
 #[test]
 fn plans_are_refused_for_each_cause() {
-    let new = |shape: Shape, d: Vec<u8>| Plan::new(shape, vec![], vec![], d).map(|_| ());
+    let new =
+        |shape: Shape, d: Vec<u8>| Plan::new(shape, vec![2, 2], vec![], vec![], d).map(|_| ());
     assert_eq!(new(XOR, vec![1, 1]), Ok(()));
     assert_eq!(new(Shape { p: 9, ..XOR }, vec![]), Err(Refusal::NO_PRIME));
     assert_eq!(new(Shape { s: 4, ..XOR }, vec![]), Err(Refusal::RADIX));
     assert_eq!(new(Shape { n: 0, ..XOR }, vec![]), Err(Refusal::RANGE));
     assert_eq!(new(XOR, vec![1]), Err(Refusal::LENGTH));
     assert_eq!(new(XOR, vec![1, 3]), Err(Refusal::NO_RESIDUE));
+}
+
+#[test]
+fn radices_are_refused_for_each_cause() {
+    let new = |radices: &[u8]| {
+        Plan::new(XOR, radices.to_vec(), vec![], vec![], vec![1, 1]).map(|plan| plan.entries())
+    };
+    assert_eq!(new(&[2, 3]), Ok(6));
+    assert_eq!(new(&[3, 3]), Ok(9));
+    for radices in [[2, 1], [0, 2], [2, 4], [255, 2]] {
+        assert_eq!(new(&radices), Err(Refusal::RADIX));
+    }
+    assert_eq!(new(&[2, 2, 1]), Err(Refusal::RADIX));
+    assert_eq!(new(&[2; 13]), Err(Refusal::RANGE));
+    assert_eq!(new(&[2; 12]), Err(Refusal::LENGTH));
+    assert_eq!(new(&[3]), Err(Refusal::LENGTH));
+    assert_eq!(new(&[]), Err(Refusal::LENGTH));
+}
+
+/// The plan of a shape without links and products.
+fn bare(p: usize, s: usize, n: usize) -> Result<Plan, Refusal> {
+    let [m, t] = [0, 0];
+    Plan::with_radix(Shape { p, s, n, m, t }, vec![], vec![], vec![])
+}
+
+#[test]
+fn with_radix_takes_s_for_every_digit() {
+    for p in [3, 5, 17, 67, 251] {
+        for s in 2..=p {
+            for n in 1..=13 {
+                let plan = bare(p, s, n);
+                if s.pow(n as u32) > 4_096 {
+                    assert_eq!(plan, Err(Refusal::RANGE));
+                    break;
+                }
+                let plan = plan.expect("a plan");
+                assert_eq!(plan.radices(), vec![s as u8; n]);
+                assert_eq!(plan.entries(), s.pow(n as u32));
+                let shape = plan.shape();
+                let same = Plan::new(shape, vec![s as u8; n], vec![], vec![], vec![]);
+                assert_eq!(same, Ok(plan.clone()));
+
+                // The digits in radix s, from the right.
+                for entry in [0, 1, s - 1, s, plan.entries() / 2, plan.entries() - 1] {
+                    let mut rest = entry;
+                    let mut digits = plan.digits(entry).expect("an entry");
+                    for digit in digits.drain(..).rev() {
+                        assert_eq!(digit as usize, rest % s);
+                        rest /= s;
+                    }
+                    assert_eq!(rest, 0);
+                }
+                assert_eq!(plan.row(plan.entries()), Err(Refusal::NO_ENTRY));
+            }
+        }
+    }
+}
+
+/// However large s and n are, the refusal is that of n radices of s, and no
+/// list of n is made.
+#[test]
+fn with_radix_is_refused_as_n_radices_are() {
+    let numbers = [0, 1, 2, 3, 4, 64, 65, 251, 252, 255, 256, 300];
+    for p in [0, 2, 3, 9, 67, 251, 253] {
+        for s in numbers {
+            for n in numbers {
+                let radices = vec![s.min(255) as u8; n];
+                let lent = Lent {
+                    p,
+                    s,
+                    n,
+                    m: 0,
+                    t: 0,
+                    radices: &radices,
+                    weights: &[],
+                    tables: &[],
+                    d: &[],
+                };
+                let number = bare(p, s, n).map_or_else(Refusal::number, |_| 0);
+                assert_eq!(number, raw::check(lent), "{p} {s} {n}");
+            }
+        }
+    }
+    for far in [1 << 16, (1 << 16) + 2, 1 << 32, 1 << 63, usize::MAX] {
+        assert_eq!(bare(9, 2, far), Err(Refusal::NO_PRIME));
+        assert_eq!(bare(251, far, 2), Err(Refusal::RADIX));
+        assert_eq!(bare(251, far, far), Err(Refusal::RADIX));
+        assert_eq!(bare(251, 2, far), Err(Refusal::RANGE));
+        assert_eq!(bare(251, 251, far), Err(Refusal::RANGE));
+    }
 }
 
 #[test]
@@ -64,7 +158,9 @@ fn any_number_may_be_given() {
                 for m in numbers {
                     for t in numbers {
                         let shape = Shape { p, s, n, m, t };
-                        if let Ok(plan) = Plan::new(shape, vec![], vec![], vec![]) {
+                        let one_radix = Plan::with_radix(shape, vec![], vec![], vec![]);
+                        let two = Plan::new(shape, vec![2, 3], vec![], vec![], vec![]);
+                        for plan in [one_radix, two].into_iter().flatten() {
                             assert!(plan.entries() <= 4_096 && plan.columns() <= 1_024);
                         }
                     }
@@ -86,8 +182,10 @@ fn any_number_may_be_given() {
 fn rows_digits_and_tables() {
     let plan = linked();
     // Digits 2 1; the link is table[2 + 3 = 0] = 4; d gives 2 + 4 * 4 = 3.
-    assert_eq!(plan.row(7), Ok(vec![1, 3, 2, 2, 1, 4]));
-    assert_eq!(plan.digits(7), Ok(vec![2, 1]));
+    assert_eq!(plan.row(5), Ok(vec![1, 3, 2, 2, 1, 4]));
+    assert_eq!(plan.digits(5), Ok(vec![2, 1]));
+    assert_eq!(plan.digits(7), Ok(vec![3, 1]));
+    assert_eq!(plan.digits(8), Err(Refusal::NO_ENTRY));
     assert_eq!(plan.table(0), Ok(vec![4, 0, 0, 1, 2]));
     assert_eq!(plan.table(1), Ok(vec![0, 4, 1, 1, 4]));
     assert_eq!(plan.table(2), Ok(vec![0, 1, 4, 4, 1]));
@@ -143,6 +241,21 @@ fn a_program_is_written_and_run() {
     assert_eq!(program.run(&[0, 2]), Err(Refusal::NO_DIGIT));
     assert_eq!(Program::write(&plan, &[0; 3]), Err(Refusal::LENGTH));
     assert_eq!(Program::write(&plan, &[3; 4]), Err(Refusal::NO_RESIDUE));
+}
+
+#[test]
+fn each_digit_has_its_own_radix() {
+    let plan = linked();
+    let program = Program::write(&plan, &[0; 6]).expect("a program");
+    for (digits, fit) in [([3, 1], true), ([4, 1], false), ([1, 2], false)] {
+        let expected = if fit { None } else { Some(Refusal::NO_DIGIT) };
+        assert_eq!(program.run(&digits).err(), expected);
+        assert_eq!(plan.run(&[], &digits).err(), expected);
+    }
+    // A value is compared with s alone, which no radix is here.
+    let mut store = Store::new(&plan);
+    assert_eq!(store.file(0, 2), Ok(Filed::New { column: 2 }));
+    assert_eq!(store.file(1, 3), Err(Refusal::NO_VALUE));
 }
 
 #[test]

@@ -15,7 +15,8 @@ fn numbers(plan: &Plan) -> [u64; 5] {
 pub fn test_line(store: &Store) -> String {
     let plan = store.plan();
     let [p, s, n, m, t] = numbers(plan);
-    let (weights, tables, d) = (plan.weights(), plan.tables(), plan.d());
+    let (radices, weights) = (plan.radices(), plan.weights());
+    let (tables, d) = (plan.tables(), plan.d());
     let bytes = store.as_bytes();
     let library = calls(1, || {
         black_box(raw::test(plan.lent(), black_box(bytes)));
@@ -23,7 +24,7 @@ pub fn test_line(store: &Store) -> String {
     let reference = calls(1, || {
         let bytes = black_box(bytes);
         black_box(reference::test_store(
-            p, s, n, m, t, weights, tables, d, bytes,
+            p, s, n, m, t, radices, weights, tables, d, bytes,
         ));
     });
     crate::call_line("store test", plan, &race(ROUNDS, vec![library, reference]))
@@ -32,7 +33,8 @@ pub fn test_line(store: &Store) -> String {
 /// The row of an entry, over all entries by turns.
 pub fn row_line(plan: &Plan) -> String {
     let [p, s, n, m, t] = numbers(plan);
-    let (weights, tables, d) = (plan.weights(), plan.tables(), plan.d());
+    let (radices, weights) = (plan.radices(), plan.weights());
+    let (tables, d) = (plan.tables(), plan.d());
     let entries = plan.entries();
     let (mut row, mut other) = (vec![0; plan.columns()], vec![0; plan.columns()]);
     let library = calls(entries, || {
@@ -44,7 +46,7 @@ pub fn row_line(plan: &Plan) -> String {
         for entry in 0..entries as u64 {
             let row = black_box(&mut other);
             black_box(reference::row(
-                p, s, n, m, t, weights, tables, d, entry, row,
+                p, s, n, m, t, radices, weights, tables, d, entry, row,
             ));
         }
     });
@@ -55,7 +57,8 @@ pub fn row_line(plan: &Plan) -> String {
 pub fn write_line(store: &Store) -> String {
     let plan = store.plan();
     let [p, s, n, m, t] = numbers(plan);
-    let (weights, tables, d) = (plan.weights(), plan.tables(), plan.d());
+    let (radices, weights) = (plan.radices(), plan.weights());
+    let (tables, d) = (plan.tables(), plan.d());
     let beta = store.coefficients().expect("coefficients");
     let length = 4 * plan.step_count();
     let (mut steps, mut other) = (vec![0; length], vec![0; length]);
@@ -71,7 +74,7 @@ pub fn write_line(store: &Store) -> String {
     let reference = calls(1, || {
         let steps = black_box(&mut other);
         black_box(reference::write(
-            p, s, n, m, t, weights, tables, d, &beta, steps,
+            p, s, n, m, t, radices, weights, tables, d, &beta, steps,
         ));
     });
     let least = race(ROUNDS, vec![library, reference]);
@@ -82,7 +85,8 @@ pub fn write_line(store: &Store) -> String {
 pub fn run_line(store: &Store) -> String {
     let plan = store.plan();
     let [p, s, n, m, t] = numbers(plan);
-    let (weights, tables, d) = (plan.weights(), plan.tables(), plan.d());
+    let (radices, weights) = (plan.radices(), plan.weights());
+    let (tables, d) = (plan.tables(), plan.d());
     let beta = store.coefficients().expect("coefficients");
     let program = Program::write(plan, &beta).expect("a program");
     let steps = program.numbers();
@@ -96,7 +100,7 @@ pub fn run_line(store: &Store) -> String {
     });
     let reference = calls(count, || {
         let steps = black_box(steps);
-        let ran = reference::run(p, s, n, m, t, weights, tables, d, steps, &digits);
+        let ran = reference::run(p, s, n, m, t, radices, weights, tables, d, steps, &digits);
         black_box(ran.is_ok());
     });
     let least = race(ROUNDS, vec![library, reference]);

@@ -26,9 +26,12 @@ fn by_library(case: &Case, store: &mut [u8]) {
 fn by_reference(plan: &Plan, store: &mut [u8], entry: usize, value: usize) {
     let shape = plan.shape();
     let [p, s, n, m, t] = [shape.p, shape.s, shape.n, shape.m, shape.t].map(|x| x as u64);
-    let (weights, tables, d) = (plan.weights(), plan.tables(), plan.d());
+    let (radices, weights) = (plan.radices(), plan.weights());
+    let (tables, d) = (plan.tables(), plan.d());
     let (entry, value) = (entry as u64, value as u64);
-    let filed = reference::file(p, s, n, m, t, weights, tables, d, store, entry, value);
+    let filed = reference::file(
+        p, s, n, m, t, radices, weights, tables, d, store, entry, value,
+    );
     assert!(!matches!(filed, reference::Filed::Refused(_)));
 }
 

@@ -42,15 +42,16 @@ All figures come from one run of `rust/run-bench`, one thread, built for release
 Each is the least of 5 to 50 rounds in which the contenders take turns, in \
 processor time, so that other work on the machine counts little; still the ratios \
 are steadier than the times. Plans are \
-random, of radix 2, and the table filed is that of the first link, so that every \
-entry is kept. The reference is `rust/reference`, a naive twin that is made to be \
+random, all digits of radix 2, but for the one of 744 entries: its radices are 12, \
+31 and 2, a month, a day and a bit. The table filed is that of the first link, so \
+that every entry is kept. The reference is `rust/reference`, a naive twin that is made to be \
 read and not to be fast; both check everything they are lent on every call.
 
 ## Filing a whole table
 
 One entry at a time through `celery_file`, each call with all its checks: the \
 plan, the whole store, the entry, the value. The store is cleared before the time \
-starts. With 4,096 entries the reference is timed on 32 of them, evenly spaced, \
+starts. With more than 256 entries the reference is timed on 32 of them, evenly spaced, \
 each on the store that the library had left there, and the sum is scaled. FLINT's \
 `nmod_mat_rref` reduces the same matrix (rows with their values) in one batch, \
 without checks, its input already in place; its reduced rows are compared with \

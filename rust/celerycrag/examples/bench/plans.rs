@@ -16,16 +16,18 @@ pub struct Case {
 }
 
 impl Case {
-    /// A random plan of radix 2. The table is that of the first link, whose
-    /// values are bits: some β reproduces it, whatever the rest of the plan.
-    fn new(p: usize, n: usize, m: usize, t: usize) -> Case {
+    /// A random plan with these radices. The table is that of the first link,
+    /// whose values are bits: some β reproduces it, whatever the rest of the
+    /// plan.
+    fn new(p: usize, radices: &[u8], m: usize, t: usize) -> Case {
+        let n = radices.len();
         let random = &mut SplitMix((p * n) as u64);
         let weights = bytes(random, (0..m).map(|k| n + k).sum(), p);
         let mut tables = bytes(random, m * p, p);
         tables[..p].copy_from_slice(&bytes(random, p, 2));
         let d = bytes(random, t * (n + m), p);
         let shape = Shape { p, s: 2, n, m, t };
-        let plan = Plan::new(shape, weights, tables, d).expect("a plan");
+        let plan = Plan::new(shape, radices.to_vec(), weights, tables, d).expect("a plan");
         let link = plan.columns() - m;
         let value = |entry| plan.row(entry).expect("a row")[link] as usize;
         let values = (0..plan.entries()).map(value).collect();
@@ -43,16 +45,32 @@ impl Case {
     }
 }
 
-/// 64 entries with C = 64, 256 with C = 256, 4,096 with C = 1,024, each for
-/// three primes; of these, the ones with at most so many entries.
+/// The radices of a month, a day and a bit.
+const MIXED: [u8; 3] = [12, 31, 2];
+
+/// Radix 2 with 64 entries and C = 64, with 256 and C = 256, and with 4,096 and
+/// C = 1,024, each for three primes; and between them a month, a day and a bit,
+/// 744 entries with C = 744. Of these, the ones with at most so many entries.
 pub fn cases(most: usize) -> Vec<Case> {
+    let bits = [2; 12];
+    let shapes: [(&[usize], &[u8], usize, usize); 4] = [
+        (&[3, 17, 251], &bits[..6], 26, 1),
+        (&[3, 17, 251], &bits[..8], 56, 3),
+        (&[31], &MIXED, 59, 11),
+        (&[3, 17, 251], &bits, 52, 15),
+    ];
     let mut cases = Vec::new();
-    for [n, m, t] in [[6, 26, 1], [8, 56, 3], [12, 52, 15]] {
-        if 1 << n > most {
+    for (primes, radices, m, t) in shapes {
+        if radices
+            .iter()
+            .map(|&radix| radix as usize)
+            .product::<usize>()
+            > most
+        {
             break;
         }
-        for p in [3, 17, 251] {
-            cases.push(Case::new(p, n, m, t));
+        for &p in primes {
+            cases.push(Case::new(p, radices, m, t));
         }
     }
     cases
