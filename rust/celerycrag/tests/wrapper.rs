@@ -100,10 +100,9 @@ fn with_radix_takes_s_for_every_digit() {
                 assert_eq!(same, Ok(plan.clone()));
 
                 // The digits in radix s, from the right.
-                for entry in [0, 1, s - 1, s, plan.entries() / 2, plan.entries() - 1] {
+                for entry in [0, 1, s - 1, plan.entries() / 2, plan.entries() - 1] {
                     let mut rest = entry;
-                    let mut digits = plan.digits(entry).expect("an entry");
-                    for digit in digits.drain(..).rev() {
+                    for digit in plan.digits(entry).expect("an entry").into_iter().rev() {
                         assert_eq!(digit as usize, rest % s);
                         rest /= s;
                     }
@@ -247,10 +246,10 @@ fn a_program_is_written_and_run() {
 fn each_digit_has_its_own_radix() {
     let plan = linked();
     let program = Program::write(&plan, &[0; 6]).expect("a program");
-    for (digits, fit) in [([3, 1], true), ([4, 1], false), ([1, 2], false)] {
-        let expected = if fit { None } else { Some(Refusal::NO_DIGIT) };
-        assert_eq!(program.run(&digits).err(), expected);
-        assert_eq!(plan.run(&[], &digits).err(), expected);
+    assert!(program.run(&[3, 1]).is_ok());
+    for digits in [[4, 1], [1, 2], [4, 2]] {
+        assert_eq!(program.run(&digits), Err(Refusal::NO_DIGIT));
+        assert_eq!(plan.run(&[], &digits), Err(Refusal::NO_DIGIT));
     }
     // A value is compared with s alone, which no radix is here.
     let mut store = Store::new(&plan);
