@@ -1,4 +1,4 @@
--- The meaning of texts: 01's XOR example, byte for byte, and a refusal of each kind. One collected table of facts about the definition;
+-- The meaning of texts: 01's XOR example with its radices, byte for byte, and a refusal of each kind. One collected table of facts about the definition;
 -- each computes. A quoted text stands for its bytes, `\n` for the LF. Assumes nothing.
 use mathlib.Core.Path.{_≡_, refl}
 use mathlib.Core.List.{List, [], _∷_}
@@ -8,7 +8,7 @@ use Prim.Native.String.{String, [] as []ˢ, _∷_ as _∷ˢ_}
 use Rattle.lists.specs.Places.{sum, tab, every, joined, largest}
 use Rattle.field.specs.Primes.{isPrime, oddPrime}
 use Rattle.field.specs.Residues.{inverse}
-use Rattle.plan.specs.Numbers.{badRadix, outOfRange}
+use Rattle.plan.specs.Numbers.{product, badRadix, radicesFit, outOfRange}
 use Rattle.plan.specs.Parts.{lengthsFit, valuesFit, storeSize, callCauses}
 use Rattle.plan.specs.Rows.{digit, link, chain, values, weighted, rowPlace, row}
 use Rattle.store.specs.Elimination.{isZeroRow, isPivot, isReduced, residual, lead, normal, inserted, outcome, after, rowStart, flat}
@@ -26,8 +26,8 @@ bytes []ˢ = []
 bytes (c ∷ˢ s) = code c ∷ bytes s
 
 pub record Meanings : Type 0 where
-  -- "XOR"
-  pub xor : meaning (bytes "p s n links products\n3 2 2 0 1\n1 1\nentry value\n0 0\n1 1\n2 1\n3 0\n") ≡ bytes "bootstraps steps worst\n2 19 2\nkind to from by\n0 6 0 0\n0 2 0 0\n1 2 0 0\n1 2 1 1\n0 3 0 0\n1 3 0 1\n1 3 1 1\n0 4 0 0\n1 4 2 1\n1 4 3 1\n0 5 0 0\n1 5 2 1\n1 5 3 2\n2 4 4 0\n2 5 5 1\n1 6 4 1\n1 6 5 1\n1 6 0 1\n1 6 1 0\n"
+  -- "The XOR text gains the line `2 2` and prints the same"
+  pub xor : meaning (bytes "p s n links products\n3 2 2 0 1\n2 2\n1 1\nentry value\n0 0\n1 1\n2 1\n3 0\n") ≡ bytes "bootstraps steps worst\n2 19 2\nkind to from by\n0 6 0 0\n0 2 0 0\n1 2 0 0\n1 2 1 1\n0 3 0 0\n1 3 0 1\n1 3 1 1\n0 4 0 0\n1 4 2 1\n1 4 3 1\n0 5 0 0\n1 5 2 1\n1 5 3 2\n2 4 4 0\n2 5 5 1\n1 6 4 1\n1 6 5 1\n1 6 0 1\n1 6 1 0\n"
   -- an empty text: line 1 is missing
   pub empty-text : meaning [] ≡ bytes "refusal line\n13 1\n"
   -- the values line is missing
@@ -41,28 +41,47 @@ pub record Meanings : Type 0 where
   -- a leading zero
   pub leading-zero : meaning (bytes "p s n links products\n03 2 2 0 1\n") ≡ bytes "refusal line\n13 2\n"
   -- s above p
-  pub radix-above : meaning (bytes "p s n links products\n3 4 2 0 1\n") ≡ bytes "refusal line\n2 2\n"
-  -- 2^13 entries
-  pub entries-above : meaning (bytes "p s n links products\n3 2 13 0 1\n") ≡ bytes "refusal line\n3 2\n"
+  pub bound-above : meaning (bytes "p s n links products\n3 4 2 0 1\n") ≡ bytes "refusal line\n2 2\n"
   -- C = 256
   pub columns-above : meaning (bytes "p s n links products\n3 2 1 63 3\n") ≡ bytes "refusal line\n14 2\n"
+  -- C = 256 and a bad radix behind it: "In text the values line is tested whole before the radices line is read"
+  pub columns-first : meaning (bytes "p s n links products\n3 2 1 63 3\n1\n") ≡ bytes "refusal line\n14 2\n"
+  -- 64 digits pass the values line, and the radices line is missing
+  pub radices-missing : meaning (bytes "p s n links products\n3 2 64 0 0\n") ≡ bytes "refusal line\n13 3\n"
+  -- a radix too many, and a bad one: 13 comes first
+  pub radix-more : meaning (bytes "p s n links products\n3 2 2 0 1\n2 2 1\n") ≡ bytes "refusal line\n13 3\n"
+  -- a radix of 1
+  pub radix-below : meaning (bytes "p s n links products\n3 2 2 0 1\n2 1\n") ≡ bytes "refusal line\n2 3\n"
+  -- a last radix of p + 1, and a product above 4,096 before it: 2 comes before 3 over the whole line
+  pub radix-above : meaning (bytes "p s n links products\n67 2 3 0 0\n67 67 68\n") ≡ bytes "refusal line\n2 3\n"
+  -- a radix of p passes, and the line behind the radices is missing
+  pub radix-largest : meaning (bytes "p s n links products\n3 2 2 0 0\n3 3\n") ≡ bytes "refusal line\n13 4\n"
+  -- 65,538 is no radix of 2
+  pub radix-wide : meaning (bytes "p s n links products\n3 2 2 0 1\n65538 2\n") ≡ bytes "refusal line\n2 3\n"
+  -- 2^13 entries
+  pub entries-above : meaning (bytes "p s n links products\n3 2 13 0 1\n2 2 2 2 2 2 2 2 2 2 2 2 2\n") ≡ bytes "refusal line\n3 3\n"
+  -- 01's XOR text, without its radices: `1 1` is read as these
+  pub radices-unwritten : meaning (bytes "p s n links products\n3 2 2 0 1\n1 1\nentry value\n0 0\n1 1\n2 1\n3 0\n") ≡ bytes "refusal line\n2 3\n"
   -- a weight of p
-  pub weight-above : meaning (bytes "p s n links products\n3 2 2 0 1\n1 3\n") ≡ bytes "refusal line\n5 3\n"
+  pub weight-above : meaning (bytes "p s n links products\n3 2 2 0 1\n2 2\n1 3\n") ≡ bytes "refusal line\n5 4\n"
   -- a weight of p and a number too many: 13 comes first
-  pub number-more : meaning (bytes "p s n links products\n3 2 2 0 1\n1 3 1\n") ≡ bytes "refusal line\n13 3\n"
-  -- an entry of s^n with a value of s: 7 comes before 8
-  pub entry-above : meaning (bytes "p s n links products\n3 2 2 0 1\n1 1\nentry value\n4 2\n") ≡ bytes "refusal line\n7 5\n"
+  pub number-more : meaning (bytes "p s n links products\n3 2 2 0 1\n2 2\n1 3 1\n") ≡ bytes "refusal line\n13 4\n"
+  -- an entry of 2 times 2 with a value of s: 7 comes before 8
+  pub entry-above : meaning (bytes "p s n links products\n3 2 2 0 1\n2 2\n1 1\nentry value\n4 2\n") ≡ bytes "refusal line\n7 6\n"
+  -- radices of 12 and 2: 24 entries, of which 23 is the last
+  pub mixed-last : meaning (bytes "p s n links products\n13 2 2 0 0\n12 2\nentry value\n23 2\n") ≡ bytes "refusal line\n8 5\n"
+  pub mixed-above : meaning (bytes "p s n links products\n13 2 2 0 0\n12 2\nentry value\n24 0\n") ≡ bytes "refusal line\n7 5\n"
   -- a value of s
-  pub value-above : meaning (bytes "p s n links products\n3 2 2 0 1\n1 1\nentry value\n3 2\n") ≡ bytes "refusal line\n8 5\n"
+  pub value-above : meaning (bytes "p s n links products\n3 2 2 0 1\n2 2\n1 1\nentry value\n3 2\n") ≡ bytes "refusal line\n8 6\n"
   -- entry 0 can only be 0
-  pub contradiction-met : meaning (bytes "p s n links products\n3 2 2 0 1\n1 1\nentry value\n0 1\n") ≡ bytes "refusal line\n9 5\n"
+  pub contradiction-met : meaning (bytes "p s n links products\n3 2 2 0 1\n2 2\n1 1\nentry value\n0 1\n") ≡ bytes "refusal line\n9 6\n"
   -- the last line without its LF
-  pub lf-missing : meaning (bytes "p s n links products\n3 2 2 0 1\n1 1\nentry value\n0 0") ≡ bytes "refusal line\n13 5\n"
+  pub lf-missing : meaning (bytes "p s n links products\n3 2 2 0 1\n2 2\n1 1\nentry value\n0 0") ≡ bytes "refusal line\n13 6\n"
   -- a blank line
-  pub blank-line : meaning (bytes "p s n links products\n3 2 2 0 1\n1 1\nentry value\n\n") ≡ bytes "refusal line\n13 5\n"
+  pub blank-line : meaning (bytes "p s n links products\n3 2 2 0 1\n2 2\n1 1\nentry value\n\n") ≡ bytes "refusal line\n13 6\n"
 
 pub meanings : Meanings
-unfolding sum tab every joined isPrime oddPrime inverse badRadix outOfRange lengthsFit valuesFit storeSize callCauses digit link chain values weighted rowPlace row isZeroRow isPivot isReduced residual lead normal inserted outcome after rowStart flat filed coefficients adds linkSteps productSteps layout stepCount largest squares worst digitsOf decimal spaced line listing refused cutAt allDigits isNumeral numberFrom allNumerals asks numbers same judged ended from meaning
+unfolding sum tab every joined isPrime oddPrime inverse product badRadix radicesFit outOfRange lengthsFit valuesFit storeSize callCauses digit link chain values weighted rowPlace row isZeroRow isPivot isReduced residual lead normal inserted outcome after rowStart flat filed coefficients adds linkSteps productSteps layout stepCount largest squares worst digitsOf decimal spaced line listing refused cutAt allDigits isNumeral numberFrom allNumerals asks numbers same judged ended from meaning
 meanings =
     record {
       xor = refl;
@@ -72,12 +91,22 @@ meanings =
       five-digits = refl;
       six-digits = refl;
       leading-zero = refl;
-      radix-above = refl;
-      entries-above = refl;
+      bound-above = refl;
       columns-above = refl;
+      columns-first = refl;
+      radices-missing = refl;
+      radix-more = refl;
+      radix-below = refl;
+      radix-above = refl;
+      radix-largest = refl;
+      radix-wide = refl;
+      entries-above = refl;
+      radices-unwritten = refl;
       weight-above = refl;
       number-more = refl;
       entry-above = refl;
+      mixed-last = refl;
+      mixed-above = refl;
       value-above = refl;
       contradiction-met = refl;
       lf-missing = refl;

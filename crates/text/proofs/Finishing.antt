@@ -35,23 +35,24 @@ use Rattle.text.specs.Streaming.{State, start, pushes, finish}
 use Rattle.text.specs.Progress.{judgedOf, Planned, Fits, stated, stateOf, BufferSizes}
 use Rattle.text.specs.Sound.{Sound, SoundState}
 use Rattle.text.specs.declared.stages.Stage.{Stage}
-use Rattle.text.specs.declared.stages.Stage.the-variants.{Names, Header, Weights, Table, Product, EntryNames, Entries, Stopped}
+use Rattle.text.specs.declared.stages.Stage.the-variants.{Names, Header, Radices, Weights, Table, Product, EntryNames, Entries, Stopped}
 use Rattle.text.specs.declared.turns.State as code
 use Rattle.text.proofs.stages.Stage.{the-type}
 use Rattle.text.proofs.Streaming.{streamed}
 use Rattle.text.proofs.Soundness.{sound-pushes, lent}
 
-pub not-entries : (stage : Stage) → OneOf (0 ∷ 1 ∷ 2 ∷ 3 ∷ 4 ∷ 5 ∷ 7 ∷ []) (tagOf the-type stage) → (P : Plan) (a b c : ℕ) → stage ≡ Entries P a b c → ⊥
+pub not-entries : (stage : Stage) → OneOf (0 ∷ 1 ∷ 2 ∷ 3 ∷ 4 ∷ 5 ∷ 6 ∷ 8 ∷ []) (tagOf the-type stage) → (P : Plan) (a b c : ℕ) → stage ≡ Entries P a b c → ⊥
 not-entries stage h P a b c e =
-    let keys : List ℕ = 0 ∷ 1 ∷ 2 ∷ 3 ∷ 4 ∷ 5 ∷ 7 ∷ [] in
-    miss keys 6 tt (subst (λ (s : Stage). OneOf keys (tagOf the-type s)) e h)
+    let keys : List ℕ = 0 ∷ 1 ∷ 2 ∷ 3 ∷ 4 ∷ 5 ∷ 6 ∷ 8 ∷ [] in
+    miss keys 7 tt (subst (λ (s : Stage). OneOf keys (tagOf the-type s)) e h)
 
-module _ (j : ℕ) (w T d S : List ℕ) where
-  broken : (stage : Stage) (held : List ℕ) → ((k : ℕ) → stage ≡ Stopped k → ⊥) → 0 < length held → refused 13 j ≡ finish (stated j held (judgedOf stage w T d S))
+module _ (j : ℕ) (R w T d S : List ℕ) where
+  broken : (stage : Stage) (held : List ℕ) → ((k : ℕ) → stage ≡ Stopped k → ⊥) → 0 < length held → refused 13 j ≡ finish (stated j held (judgedOf stage R w T d S))
   unfolding finish
   broken stage [] h l = absurd (omega arith)
   broken Names (x ∷ xs) h l = refl
   broken Header (x ∷ xs) h l = refl
+  broken (Radices P) (x ∷ xs) h l = refl
   broken (Weights P k a b) (x ∷ xs) h l = refl
   broken (Table P k a b) (x ∷ xs) h l = refl
   broken (Product P k a b c) (x ∷ xs) h l = refl
@@ -59,10 +60,11 @@ module _ (j : ℕ) (w T d S : List ℕ) where
   broken (Entries P a b c) (x ∷ xs) h l = refl
   broken (Stopped k) (x ∷ xs) h l = absurd (h k refl)
 
-  early : (stage : Stage) → ((k : ℕ) → stage ≡ Stopped k → ⊥) → ((P : Plan) (a b c : ℕ) → stage ≡ Entries P a b c → ⊥) → refused 13 j ≡ finish (stated j [] (judgedOf stage w T d S))
+  early : (stage : Stage) → ((k : ℕ) → stage ≡ Stopped k → ⊥) → ((P : Plan) (a b c : ℕ) → stage ≡ Entries P a b c → ⊥) → refused 13 j ≡ finish (stated j [] (judgedOf stage R w T d S))
   unfolding finish ended
   early Names h g = refl
   early Header h g = refl
+  early (Radices P) h g = refl
   early (Weights P k a b) h g = refl
   early (Table P k a b) h g = refl
   early (Product P k a b c) h g = refl
@@ -70,47 +72,47 @@ module _ (j : ℕ) (w T d S : List ℕ) where
   early (Entries P a b c) h g = absurd (g P a b c refl)
   early (Stopped k) h g = absurd (h k refl)
 
-module _ (state : code.State) (line w T d S : List ℕ) where
-  pub finish-stopped : (k : ℕ) → state .stage ≡ Stopped k → refused k (state .line) ≡ finish (stateOf state line w T d S)
+module _ (state : code.State) (line R w T d S : List ℕ) where
+  pub finish-stopped : (k : ℕ) → state .stage ≡ Stopped k → refused k (state .line) ≡ finish (stateOf state line R w T d S)
   unfolding finish
-  finish-stopped k e = sym (ap (λ (s : Stage). finish (stated (state .line) (take (state .held) line) (judgedOf s w T d S))) e)
+  finish-stopped k e = sym (ap (λ (s : Stage). finish (stated (state .line) (take (state .held) line) (judgedOf s R w T d S))) e)
 
   pub finish-broken : ((k : ℕ) → state .stage ≡ Stopped k → ⊥) → (state .held ≡ 0 → ⊥) → state .held ≤ 1024 → 1024 ≤ length line
-      → refused 13 (state .line) ≡ finish (stateOf state line w T d S)
+      → refused 13 (state .line) ≡ finish (stateOf state line R w T d S)
   finish-broken h n a b =
       let inside : state .held ≤ length line = omega arith in
       let some : 0 < state .held = pos-of-ne-zero n in
-      broken (state .line) w T d S (state .stage) (take (state .held) line) h (rw (length-take-le (state .held) line inside) some)
+      broken (state .line) R w T d S (state .stage) (take (state .held) line) h (rw (length-take-le (state .held) line inside) some)
 
   module _ (none : state .held ≡ 0) where
     nothing-held : (o : Judged) → finish (stated (state .line) [] o) ≡ finish (stated (state .line) (take (state .held) line) o)
     nothing-held o = ap (λ (n : ℕ). finish (stated (state .line) (take n line) o)) (sym none)
 
     pub finish-early : ((k : ℕ) → state .stage ≡ Stopped k → ⊥) → ((P : Plan) (a b c : ℕ) → state .stage ≡ Entries P a b c → ⊥)
-        → refused 13 (state .line) ≡ finish (stateOf state line w T d S)
-    finish-early h g = early (state .line) w T d S (state .stage) h g ∙ nothing-held (judgedOf (state .stage) w T d S)
+        → refused 13 (state .line) ≡ finish (stateOf state line R w T d S)
+    finish-early h g = early (state .line) R w T d S (state .stage) h g ∙ nothing-held (judgedOf (state .stage) R w T d S)
 
     pub finish-filed : (P : Plan) (a b c size : ℕ) → state .stage ≡ Entries P a b c → size ≡ storeSize (columns P)
-        → listing P (take a w) (take c d) (coefficients (columns P) (take size S)) ≡ finish (stateOf state line w T d S)
+        → listing P (take a w) (take c d) (coefficients (columns P) (take size S)) ≡ finish (stateOf state line R w T d S)
     unfolding finish ended
     finish-filed P a b c size e h =
         ap (λ (n : ℕ). listing P (take a w) (take c d) (coefficients (columns P) (take n S))) h
-        ∙ sym (ap (λ (s : Stage). finish (stated (state .line) [] (judgedOf s w T d S))) e)
-        ∙ nothing-held (judgedOf (state .stage) w T d S)
+        ∙ sym (ap (λ (s : Stage). finish (stated (state .line) [] (judgedOf s R w T d S))) e)
+        ∙ nothing-held (judgedOf (state .stage) R w T d S)
 
   -- at the entries, what is filled lies within its buffer
-  pub entries-inside : (P : Plan) (a b c : ℕ) → state .stage ≡ Entries P a b c → Fits (state .stage) → BufferSizes w T d S
+  pub entries-inside : (P : Plan) (a b c : ℕ) → state .stage ≡ Entries P a b c → Fits (state .stage) → BufferSizes R w T d S
       → Planned P × (a ≤ length w) × (c ≤ length d)
   entries-inside P a b c e f room =
       let fits = subst Fits e f in
       (fits .0, omega (arith, fits .1, room .weights-room), omega (arith, fits .3, room .products-room))
 
-  pub filed-sound : (P : Plan) (a b c size : ℕ) → state .stage ≡ Entries P a b c → size ≡ storeSize (columns P) → SoundState (stateOf state line w T d S)
-      → Lent (lend P (take a w) (take b T) (take c d)) × Ready (P .p) (columns P) (take size S)
+  pub filed-sound : (P : Plan) (a b c size : ℕ) → state .stage ≡ Entries P a b c → size ≡ storeSize (columns P) → SoundState (stateOf state line R w T d S)
+      → Lent (lend P (take (P .n) R) (take a w) (take b T) (take c d)) × Ready (P .p) (columns P) (take size S)
   unfolding Sound SoundState
   filed-sound P a b c size e h s =
-      let at-entries = subst (λ (g : Stage). SoundState (stated (state .line) (take (state .held) line) (judgedOf g w T d S))) e s in
-      (lent (lend P (take a w) (take b T) (take c d)) (at-entries .0), subst (λ (n : ℕ). Ready (P .p) (columns P) (take n S)) (sym h) (at-entries .1))
+      let at-entries = subst (λ (g : Stage). SoundState (stated (state .line) (take (state .held) line) (judgedOf g R w T d S))) e s in
+      (lent (lend P (take (P .n) R) (take a w) (take b T) (take c d)) (at-entries .0), subst (λ (n : ℕ). Ready (P .p) (columns P) (take n S)) (sym h) (at-entries .1))
 
 pub program-room : (P : Plan) (n : ℕ) → Within P → n ≡ stepCount P → (4 * n ≤ 20000) × ((w d β : List ℕ) → length (layout P w d β) ≡ 4 * n)
 program-room P n within e = (omega (arith, step-limit P within), λ w d β. layout-length P w d β ∙ ap (λ (k : ℕ). 4 * k) (sym e))
@@ -161,14 +163,14 @@ pub prints : (out exit xs ys : List ℕ) (r : ℕ) → xs ≡ ys → exit ≡ pl
 prints out exit xs ys r e h l = (h ∙ ap (λ (zs : List ℕ). placed out 0 zs) e, l ∙ ap length e)
 
 -- all bytes of a text, from the start
-module _ (first last : code.State) (text line w T d S line′ w′ T′ d′ S′ : List ℕ) (begins : stateOf first line w T d S ≡ start)
-    (read : stateOf last line′ w′ T′ d′ S′ ≡ pushes (stateOf first line w T d S) text) where
-  all-read : stateOf last line′ w′ T′ d′ S′ ≡ pushes start text
+module _ (first last : code.State) (text line R w T d S line′ R′ w′ T′ d′ S′ : List ℕ) (begins : stateOf first line R w T d S ≡ start)
+    (read : stateOf last line′ R′ w′ T′ d′ S′ ≡ pushes (stateOf first line R w T d S) text) where
+  all-read : stateOf last line′ R′ w′ T′ d′ S′ ≡ pushes start text
   all-read = read ∙ ap (λ (s : State). pushes s text) begins
 
-  pub sound-state : SoundState (stateOf last line′ w′ T′ d′ S′)
+  pub sound-state : SoundState (stateOf last line′ R′ w′ T′ d′ S′)
   unfolding SoundState Sound
   sound-state = subst SoundState (sym all-read) (sound-pushes start text tt)
 
-  pub prints-meaning : finish (stateOf last line′ w′ T′ d′ S′) ≡ meaning text
+  pub prints-meaning : finish (stateOf last line′ R′ w′ T′ d′ S′) ≡ meaning text
   prints-meaning = ap finish all-read ∙ streamed text

@@ -2,6 +2,7 @@
 --     products-more, products-done, links-more, links-done       the place after so many products, or links
 --     refuses, reaches                  a refusal, or the next place
 --     header-thirteen, header-refused, header-wide, header-passed     the values line
+--     radices-refuses, radices-reaches       the radices line
 --     part-placed                       a line of a part written into a buffer, from a place on
 --     weights-, table-, product-refuses and -reaches       the lines of parts
 -- Assumes nothing.
@@ -26,10 +27,10 @@ use Rattle.plan.proofs.Refusals.{first-refused, first-passed}
 use Rattle.plan.proofs.Limits.{refused-number, accepted-plan}
 use Rattle.lines.specs.Lines.{asks, numbers}
 use Rattle.lines.proofs.LineLaws.{asks-count}
-use Rattle.text.specs.Meaning.{Place, header, weights, table, product, entryNames, Judged, next, cause, unless, moreWeights, moreTables, moreProducts, afterLinks, afterProducts, headerCauses, headerPlan, lineCauses, judged}
+use Rattle.text.specs.Meaning.{Place, header, radices, weights, table, products, entryNames, Judged, next, cause, unless, moreWeights, moreTables, moreProducts, afterLinks, afterProducts, headerCauses, headerPlan, radicesCauses, lineCauses, judged}
 
 module _ (G : Given) where
-  pub products-more : (j : ℕ) → j < G .numbers .t → next (product G j) ≡ next (afterProducts G j)
+  pub products-more : (j : ℕ) → j < G .numbers .t → next (products G j) ≡ next (afterProducts G j)
   products-more j h = rw (lt-ltb j (G .numbers .t) h)
 
   pub products-done : (j : ℕ) → G .numbers .t ≤ j → next (entryNames G) ≡ next (afterProducts G j)
@@ -54,12 +55,9 @@ pub header-thirteen : (line : List ℕ) → asks 5 5 line ≡ false → cause 13
 unfolding judged
 header-thirteen line e = rw e
 
--- the values line by its numbers: nothing of the parts has been read
-abbrev begun : Plan → Place
-begun P = afterLinks (lend P [] [] []) 0
-
+-- the values line by its numbers
 outcome : Plan → Judged
-outcome P = unless (first (headerCauses P)) (begun P)
+outcome P = unless (first (headerCauses P)) (radices P)
 
 header-judged : (line : List ℕ) → asks 5 5 line ≡ true → judged header line ≡ outcome (headerPlan (numbers line))
 unfolding judged outcome
@@ -69,48 +67,68 @@ module _ (p s n m t : ℕ) where
   wide : List (ℕ × Bool)
   wide = (14, ltb 255 (columns (plan p s n m t))) ∷ []
 
-  outcome-refused : (k : ℕ) → checked p s n m t ≡ answerOf (Refused k) → cause k ≡ outcome (plan p s n m t)
+  outcome-refused : (k : ℕ) → checked p s n m t [] ≡ answerOf (Refused k) → cause k ≡ outcome (plan p s n m t)
   unfolding outcome wide
   outcome-refused k e =
-      let r = refused-number p s n m t k e in
-      refuses k (begun (plan p s n m t)) (λ z. omega (arith, r .1))
-      ∙ ap (λ (j : ℕ). unless j (begun (plan p s n m t))) (first-refused (numberCauses p s n m t) wide k (omega arith) (r .0) (r .1))
+      let r = refused-number p s n m t [] k e in
+      refuses k (radices (plan p s n m t)) (λ z. omega (arith, r .1))
+      ∙ ap (λ (j : ℕ). unless j (radices (plan p s n m t))) (first-refused (numberCauses p s n m t []) wide k (omega arith) (r .0) (r .1))
 
-  module _ (Q : Plan) (e : checked p s n m t ≡ answerOf (Accepted Q)) where
+  module _ (Q : Plan) (e : checked p s n m t [] ≡ answerOf (Accepted Q)) where
     passed : first (headerCauses (plan p s n m t)) ≡ first wide
     unfolding wide
-    passed = first-passed (numberCauses p s n m t) wide (omega arith) (accepted-plan p s n m t e .0)
+    passed = first-passed (numberCauses p s n m t []) wide (omega arith) (accepted-plan p s n m t [] e .0)
 
     same-columns : columns Q ≡ columns (plan p s n m t)
-    same-columns = ap columns (sym (accepted-plan p s n m t e .1))
+    same-columns = ap columns (sym (accepted-plan p s n m t [] e .1))
 
     outcome-wide : 255 < columns Q → cause 14 ≡ outcome (plan p s n m t)
     unfolding outcome wide
     outcome-wide h =
         let met : first (headerCauses (plan p s n m t)) ≡ 14 = passed ∙ rw (lt-ltb 255 (columns (plan p s n m t)) (rw same-columns at h)) in
-        refuses 14 (begun (plan p s n m t)) (λ z. omega arith)
-        ∙ ap (λ (j : ℕ). unless j (begun (plan p s n m t))) (sym met)
+        refuses 14 (radices (plan p s n m t)) (λ z. omega arith)
+        ∙ ap (λ (j : ℕ). unless j (radices (plan p s n m t))) (sym met)
 
-    outcome-passed : columns Q ≤ 255 → next (begun Q) ≡ outcome (plan p s n m t)
+    outcome-passed : columns Q ≤ 255 → next (radices Q) ≡ outcome (plan p s n m t)
     unfolding outcome wide
     outcome-passed h =
         let met : first (headerCauses (plan p s n m t)) ≡ 0 = passed ∙ rw (le-ltb 255 (columns (plan p s n m t)) (rw same-columns at h)) in
-        ap (λ (R : Plan). next (begun R)) (sym (accepted-plan p s n m t e .1))
-        ∙ reaches (first (headerCauses (plan p s n m t))) (begun (plan p s n m t)) met
+        ap (λ (P : Plan). next (radices P)) (sym (accepted-plan p s n m t [] e .1))
+        ∙ reaches (first (headerCauses (plan p s n m t))) (radices (plan p s n m t)) met
 
 module _ (line ns : List ℕ) (e : ns ≡ numbers line) (asks5 : asks 5 5 line ≡ true) where
   is-outcome : outcome (plan (at ns 0) (at ns 1) (at ns 2) (at ns 3) (at ns 4)) ≡ judged header line
   is-outcome = ap (λ (l : List ℕ). outcome (headerPlan l)) e ∙ sym (header-judged line asks5)
 
-  pub header-refused : (k : ℕ) → checked (at ns 0) (at ns 1) (at ns 2) (at ns 3) (at ns 4) ≡ answerOf (Refused k) → cause k ≡ judged header line
+  pub header-refused : (k : ℕ) → checked (at ns 0) (at ns 1) (at ns 2) (at ns 3) (at ns 4) [] ≡ answerOf (Refused k) → cause k ≡ judged header line
   header-refused k h = outcome-refused (at ns 0) (at ns 1) (at ns 2) (at ns 3) (at ns 4) k h ∙ is-outcome
 
-  module _ (Q : Plan) (h : checked (at ns 0) (at ns 1) (at ns 2) (at ns 3) (at ns 4) ≡ answerOf (Accepted Q)) where
+  module _ (Q : Plan) (h : checked (at ns 0) (at ns 1) (at ns 2) (at ns 3) (at ns 4) [] ≡ answerOf (Accepted Q)) where
     pub header-wide : 255 < columns Q → cause 14 ≡ judged header line
     header-wide l = outcome-wide (at ns 0) (at ns 1) (at ns 2) (at ns 3) (at ns 4) Q h l ∙ is-outcome
 
-    pub header-passed : columns Q ≤ 255 → next (begun Q) ≡ judged header line
+    pub header-passed : columns Q ≤ 255 → next (radices Q) ≡ judged header line
     header-passed l = outcome-passed (at ns 0) (at ns 1) (at ns 2) (at ns 3) (at ns 4) Q h l ∙ is-outcome
+
+-- the radices line: r is its refusal
+module _ (P : Plan) (r : ℕ) (line : List ℕ) (e : r ≡ first (radicesCauses (P .n) (P .p) line)) where
+  -- behind it the radices alone have been read
+  begun : Place
+  begun = afterLinks (lend P (numbers line) [] [] []) 0
+
+  pub radices-refuses : (r ≡ 0 → ⊥) → cause r ≡ judged (radices P) line
+  unfolding judged begun
+  radices-refuses h = refuses r begun h ∙ ap (λ (k : ℕ). unless k begun) e
+
+  -- the radices as they were lent, at the front of their buffer
+  pub radices-reaches : (old part rest : List ℕ) → r ≡ 0 → length part ≡ P .n → part ≡ result r (numbers line) old
+      → next (afterLinks (lend P (take (P .n) (part ++ rest)) [] [] []) 0) ≡ judged (radices P) line
+  unfolding judged begun
+  radices-reaches old part rest z l h =
+      ap (λ (R : List ℕ). next (afterLinks (lend P R [] [] []) 0))
+      (take-at part rest (P .n) l ∙ h ∙ ap (λ (k : ℕ). result k (numbers line) old) z)
+      ∙ reaches r begun z
+      ∙ ap (λ (k : ℕ). unless k begun) e
 
 -- a line of a part: r is its refusal
 module _ (n p r : ℕ) (line : List ℕ) (e : r ≡ first (lineCauses n p line)) where
@@ -152,39 +170,39 @@ module _ (n p r : ℕ) (line : List ℕ) (e : r ≡ first (lineCauses n p line))
           ∙ take-append-drop a buf
           ∙ ap (λ (k : ℕ). result k (placed buf a (numbers line)) buf) (sym z)
 
-module _ (P : Plan) (k r : ℕ) (line : List ℕ) where
+module _ (P : Plan) (k r : ℕ) (R line : List ℕ) where
   module _ (e : r ≡ first (lineCauses (P .n + k) (P .p) line)) where
-    pub weights-refuses : (w T d : List ℕ) → (r ≡ 0 → ⊥) → cause r ≡ judged (weights (lend P w T d) k) line
+    pub weights-refuses : (w T d : List ℕ) → (r ≡ 0 → ⊥) → cause r ≡ judged (weights (lend P R w T d) k) line
     unfolding judged
-    weights-refuses w T d h = part-refuses (P .n + k) (P .p) r line e (table (moreWeights (lend P w T d) (numbers line)) k) h
+    weights-refuses w T d h = part-refuses (P .n + k) (P .p) r line e (table (moreWeights (lend P R w T d) (numbers line)) k) h
 
     pub weights-reaches : (w out T d : List ℕ) (a : ℕ) → r ≡ 0 → a + (P .n + k) ≤ length w → out ≡ result r (placed w a (numbers line)) w
-        → next (table (lend P (take (a + (P .n + k)) out) T d) k) ≡ judged (weights (lend P (take a w) T d) k) line
+        → next (table (lend P R (take (a + (P .n + k)) out) T d) k) ≡ judged (weights (lend P R (take a w) T d) k) line
     unfolding judged
     weights-reaches w out T d a z h o =
-        ap (λ (l : List ℕ). next (table (lend P l T d) k)) (part-filled (P .n + k) (P .p) r line e w out a z h o)
-        ∙ part-reaches (P .n + k) (P .p) r line e (table (moreWeights (lend P (take a w) T d) (numbers line)) k) z
+        ap (λ (l : List ℕ). next (table (lend P R l T d) k)) (part-filled (P .n + k) (P .p) r line e w out a z h o)
+        ∙ part-reaches (P .n + k) (P .p) r line e (table (moreWeights (lend P R (take a w) T d) (numbers line)) k) z
 
   module _ (e : r ≡ first (lineCauses (P .p) (P .p) line)) where
-    pub table-refuses : (w T d : List ℕ) → (r ≡ 0 → ⊥) → cause r ≡ judged (table (lend P w T d) k) line
+    pub table-refuses : (w T d : List ℕ) → (r ≡ 0 → ⊥) → cause r ≡ judged (table (lend P R w T d) k) line
     unfolding judged
-    table-refuses w T d h = part-refuses (P .p) (P .p) r line e (afterLinks (moreTables (lend P w T d) (numbers line)) (suc k)) h
+    table-refuses w T d h = part-refuses (P .p) (P .p) r line e (afterLinks (moreTables (lend P R w T d) (numbers line)) (suc k)) h
 
     pub table-reaches : (w T out d : List ℕ) (b : ℕ) → r ≡ 0 → b + P .p ≤ length T → out ≡ result r (placed T b (numbers line)) T
-        → next (afterLinks (lend P w (take (b + P .p) out) d) (k + 1)) ≡ judged (table (lend P w (take b T) d) k) line
+        → next (afterLinks (lend P R w (take (b + P .p) out) d) (k + 1)) ≡ judged (table (lend P R w (take b T) d) k) line
     unfolding judged
     table-reaches w T out d b z h o =
-        ap₂ (λ (i : ℕ) (l : List ℕ). next (afterLinks (lend P w l d) i)) (add-one k) (part-filled (P .p) (P .p) r line e T out b z h o)
-        ∙ part-reaches (P .p) (P .p) r line e (afterLinks (moreTables (lend P w (take b T) d) (numbers line)) (suc k)) z
+        ap₂ (λ (i : ℕ) (l : List ℕ). next (afterLinks (lend P R w l d) i)) (add-one k) (part-filled (P .p) (P .p) r line e T out b z h o)
+        ∙ part-reaches (P .p) (P .p) r line e (afterLinks (moreTables (lend P R w (take b T) d) (numbers line)) (suc k)) z
 
   module _ (e : r ≡ first (lineCauses (P .n + P .m) (P .p) line)) where
-    pub product-refuses : (w T d : List ℕ) → (r ≡ 0 → ⊥) → cause r ≡ judged (product (lend P w T d) k) line
+    pub product-refuses : (w T d : List ℕ) → (r ≡ 0 → ⊥) → cause r ≡ judged (products (lend P R w T d) k) line
     unfolding judged
-    product-refuses w T d h = part-refuses (P .n + P .m) (P .p) r line e (afterProducts (moreProducts (lend P w T d) (numbers line)) (suc k)) h
+    product-refuses w T d h = part-refuses (P .n + P .m) (P .p) r line e (afterProducts (moreProducts (lend P R w T d) (numbers line)) (suc k)) h
 
     pub product-reaches : (w T d out : List ℕ) (c : ℕ) → r ≡ 0 → c + (P .n + P .m) ≤ length d → out ≡ result r (placed d c (numbers line)) d
-        → next (afterProducts (lend P w T (take (c + (P .n + P .m)) out)) (k + 1)) ≡ judged (product (lend P w T (take c d)) k) line
+        → next (afterProducts (lend P R w T (take (c + (P .n + P .m)) out)) (k + 1)) ≡ judged (products (lend P R w T (take c d)) k) line
     unfolding judged
     product-reaches w T d out c z h o =
-        ap₂ (λ (i : ℕ) (l : List ℕ). next (afterProducts (lend P w T l) i)) (add-one k) (part-filled (P .n + P .m) (P .p) r line e d out c z h o)
-        ∙ part-reaches (P .n + P .m) (P .p) r line e (afterProducts (moreProducts (lend P w T (take c d)) (numbers line)) (suc k)) z
+        ap₂ (λ (i : ℕ) (l : List ℕ). next (afterProducts (lend P R w T l) i)) (add-one k) (part-filled (P .n + P .m) (P .p) r line e d out c z h o)
+        ∙ part-reaches (P .n + P .m) (P .p) r line e (afterProducts (moreProducts (lend P R w T (take c d)) (numbers line)) (suc k)) z

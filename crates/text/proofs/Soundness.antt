@@ -19,7 +19,7 @@ use Rattle.field.specs.Rows.{allBelow}
 use Rattle.field.proofs.Ranges.{residues-of}
 use Rattle.plan.specs.declared.numbers.Plan.{Plan}
 use Rattle.plan.specs.Causes.{first}
-use Rattle.plan.specs.Numbers.{variables, columns, numberCauses, Within}
+use Rattle.plan.specs.Numbers.{variables, columns, product, radicesFit, numberCauses, radixCauses, Within, Radices}
 use Rattle.plan.specs.Parts.{Given, lend, Lent}
 use Rattle.plan.proofs.Bounds.{prime-low}
 use Rattle.plan.proofs.Refusals.{first-none}
@@ -28,7 +28,7 @@ use Rattle.store.specs.Calls.{emptyStore, fileCauses}
 use Rattle.store.proofs.Readiness.{empty-ready, unmet, filed-ready}
 use Rattle.lines.specs.Lines.{asks, numbers, same}
 use Rattle.lines.proofs.LineLaws.{asks-count}
-use Rattle.text.specs.Meaning.{Place, names, header, weights, table, product, entryNames, entries, Judged, next, cause, unless, moreWeights, moreTables, moreProducts, afterLinks, afterProducts, headerCauses, headerPlan, lineCauses, entryCauses, entered, judged, planNames, pairNames}
+use Rattle.text.specs.Meaning.{Place, names, header, radices, weights, table, products, entryNames, entries, Judged, next, cause, unless, moreWeights, moreTables, moreProducts, afterLinks, afterProducts, headerCauses, headerPlan, radicesCauses, lineCauses, entryCauses, entered, judged, planNames, pairNames}
 use Rattle.text.specs.Streaming.{State, reading, stopped, turned, push, pushes, hold}
 use Rattle.text.specs.Progress.{Planned}
 use Rattle.text.specs.Sound.{Parts, Sound, SoundState}
@@ -62,7 +62,7 @@ module _ (G : Given) where
   unfolding Sound
   sound-products b l parts = by (ltb b (G .numbers .t)) refl
     where
-      by : (c : Bool) → ltb b (G .numbers .t) ≡ c → Sound (cond c (product G b) (entryNames G))
+      by : (c : Bool) → ltb b (G .numbers .t) ≡ c → Sound (cond c (products G b) (entryNames G))
       by true e = (ltb-true b (G .numbers .t) e, parts)
       by false e = subst (Parts G (G .numbers .m) (G .numbers .m)) (le-antisymm l (ltb-false b (G .numbers .t) e)) parts
 
@@ -82,6 +82,7 @@ module _ (G : Given) where
         let h = part-line (G .numbers .n + k) (G .numbers .p) line e in
         record {
           planned = parts .planned;
+          radices = parts .radices;
           weights-length = length-append (G .weights) (numbers line) ∙ rw (parts .weights-length, h .0) (sym (sum-suc (λ i. G .numbers .n + i) k));
           tables-length = parts .tables-length;
           products-length = parts .products-length;
@@ -95,6 +96,7 @@ module _ (G : Given) where
         let h = part-line (G .numbers .p) (G .numbers .p) line e in
         record {
           planned = parts .planned;
+          radices = parts .radices;
           weights-length = parts .weights-length;
           tables-length = length-append (G .tables) (numbers line) ∙ rw (parts .tables-length, h .0) (omega arith);
           products-length = parts .products-length;
@@ -108,6 +110,7 @@ module _ (G : Given) where
         let h = part-line (variables (G .numbers)) (G .numbers .p) line e in
         record {
           planned = parts .planned;
+          radices = parts .radices;
           weights-length = parts .weights-length;
           tables-length = parts .tables-length;
           products-length = length-append (G .products) (numbers line) ∙ rw (parts .products-length, h .0) (omega arith);
@@ -120,6 +123,7 @@ module _ (G : Given) where
   lent parts =
       let pos : 0 < G .numbers .p = omega (arith, prime-low (parts .planned .0)) in
       record {
+        radices = parts .radices;
         weights-length = parts .weights-length;
         tables-length = parts .tables-length;
         products-length = parts .products-length;
@@ -128,12 +132,13 @@ module _ (G : Given) where
         products-residues = residues-of (G .numbers .p) (G .products) pos (parts .products-below);
       }
 
--- before any part is read
-no-parts : (P : Plan) → Planned P → Parts (lend P [] [] []) 0 0 0
+-- before any other part than the radices is read
+no-parts : (P : Plan) (R : List ℕ) → Planned P → Radices P R → Parts (lend P R [] [] []) 0 0 0
 unfolding sum every
-no-parts P h =
+no-parts P R h rs =
     record {
       planned = h;
+      radices = rs;
       weights-length = refl;
       tables-length = omega arith;
       products-length = omega arith;
@@ -145,24 +150,40 @@ no-parts P h =
 -- the values line: its plan is within its limits, and C at most 255
 planned-of : (P : Plan) → first (headerCauses P) ≡ 0 → Planned P
 planned-of P e =
-    let h = first-none (numberCauses (P .p) (P .s) (P .n) (P .m) (P .t)) ((14, ltb 255 (columns P)) ∷ []) (omega arith) e in
-    (within-of (P .p) (P .s) (P .n) (P .m) (P .t) (h .0), ltb-false 255 (columns P) (passed 14 (ltb 255 (columns P)) 0 (omega arith) (h .1) .0))
+    let h = first-none (numberCauses (P .p) (P .s) (P .n) (P .m) (P .t) []) ((14, ltb 255 (columns P)) ∷ []) (omega arith) e in
+    (within-of (P .p) (P .s) (P .n) (P .m) (P .t) [] (h .0), ltb-false 255 (columns P) (passed 14 (ltb 255 (columns P)) 0 (omega arith) (h .1) .0))
+
+-- the radices line: n radices, each 2 to p, with a product within the limit
+radices-line : (P : Plan) (line : List ℕ) → first (radicesCauses (P .n) (P .p) line) ≡ 0 → Radices P (numbers line)
+radices-line P line e =
+    let a = passed 13 (not (asks 5 (P .n) line)) (first (radixCauses (P .p) (numbers line))) (omega arith) e in
+    let b = passed 2 (not (radicesFit (P .p) (numbers line))) (first ((3, ltb 4096 (product (numbers line))) ∷ [])) (omega arith) (a .1) in
+    let c = passed 3 (ltb 4096 (product (numbers line))) 0 (omega arith) (b .1) in
+    record {
+      count = asks-count 5 (P .n) line (not-false (asks 5 (P .n) line) (a .0));
+      fit = not-false (radicesFit (P .p) (numbers line)) (b .0);
+      limit = ltb-false 4096 (product (numbers line)) (c .0);
+    }
 
 pub sound-judged : (place : Place) (line : List ℕ) (after : Place) → Sound place → judged place line ≡ next after → Sound after
 unfolding judged Sound
 sound-judged names line after s e = subst Sound (unless-next (first ((13, not (same line planNames)) ∷ [])) header after e .1) tt
 sound-judged header line after s e =
     let P = headerPlan (numbers line) in
-    let u = unless-next (first ((13, not (asks 5 5 line)) ∷ headerCauses P)) (afterLinks (lend P [] [] []) 0) after e in
+    let u = unless-next (first ((13, not (asks 5 5 line)) ∷ headerCauses P)) (radices P) after e in
     let h = passed 13 (not (asks 5 5 line)) (first (headerCauses P)) (omega arith) (u .0) in
-    subst Sound (u .1) (sound-links (lend P [] [] []) 0 (omega arith) (no-parts P (planned-of P (h .1))))
+    subst Sound (u .1) (planned-of P (h .1))
+sound-judged (radices P) line after s e =
+    let G = lend P (numbers line) [] [] [] in
+    let u = unless-next (first (radicesCauses (P .n) (P .p) line)) (afterLinks G 0) after e in
+    subst Sound (u .1) (sound-links G 0 (omega arith) (no-parts P (numbers line) s (radices-line P line (u .0))))
 sound-judged (weights G k) line after s e =
     let u = unless-next (first (lineCauses (G .numbers .n + k) (G .numbers .p) line)) (table (moreWeights G (numbers line)) k) after e in
     subst Sound (u .1) (s .0, more-weights G (s .1) line (u .0))
 sound-judged (table G k) line after s e =
     let u = unless-next (first (lineCauses (G .numbers .p) (G .numbers .p) line)) (afterLinks (moreTables G (numbers line)) (suc k)) after e in
     subst Sound (u .1) (sound-links (moreTables G (numbers line)) (suc k) (omega (arith, s .0)) (more-tables G (s .1) line (u .0)))
-sound-judged (product G b) line after s e =
+sound-judged (products G b) line after s e =
     let u = unless-next (first (lineCauses (variables (G .numbers)) (G .numbers .p) line)) (afterProducts (moreProducts G (numbers line)) (suc b)) after e in
     subst Sound (u .1) (sound-products (moreProducts G (numbers line)) (suc b) (omega (arith, s .0)) (more-products G (s .1) line (u .0)))
 sound-judged (entryNames G) line after s e =
@@ -174,7 +195,7 @@ sound-judged (entries G S) line after s e =
     let u = unless-next (first (entryCauses G S line)) (entries G (entered G S line)) after e in
     let h = passed 13 (not (asks 5 2 line)) (first (fileCauses G S i v)) (omega arith) (u .0) in
     let within : Within (G .numbers) = s .0 .planned .0 in
-    subst Sound (u .1) (s .0, filed-ready G S i v within (lent G (s .0)) (omega (arith, unmet G S i v (h .1) .below, within .radix-high)) (s .1))
+    subst Sound (u .1) (s .0, filed-ready G S i v within (lent G (s .0)) (omega (arith, unmet G S i v (h .1) .below, within .value-high)) (s .1))
 
 sound-push : (state : State) (x : ℕ) → SoundState state → SoundState (push state x)
 unfolding push SoundState

@@ -1,7 +1,7 @@
--- 01, "The filing program": the meaning of a text, from the bytes of standard input to the bytes of standard output.
--- "Names line, values line; per link a line of weights, then a line with its table; a d line per product; names line `entry value`, then
--- entries to the end." A text is a fold over its lines with a place: what the next line is to be, with what has been read so far, as the parts of
--- a plan as lent.
+-- 01, "The filing program", and 02, C-11: the meaning of a text, from the bytes of standard input to the bytes of standard output.
+-- "Names line, values line"; "after the values line a plan has a line of n radices"; "per link a line of weights, then a line with its table; a
+-- d line per product; names line `entry value`, then entries to the end." A text is a fold over its lines with a place: what the next line is to
+-- be, with what has been read so far, as the parts of a plan as lent.
 --     Place               where a line stands
 --     Judged              the judgement of a line: the next place, or the cause of a refusal
 --     planNames, pairNames     the two names lines
@@ -9,6 +9,7 @@
 --     afterProducts G b, afterLinks G k      the place after b of the products, and after k of the links
 --     unless k place      that place, or cause k where k is not 0
 --     headerCauses P, headerPlan ns      the values line: its causes but 13, and the plan that its five numbers ask for
+--     radicesCauses n p line   the radices line: its causes, of n radices 2 to p
 --     lineCauses n p line      the causes of a line of n residues modulo p
 --     entryCauses G S line, entered G S line     an entry line: its causes, and the store after it
 --     judged place line   the judgement of a line: one clause for each kind of line
@@ -25,7 +26,7 @@ use Rattle.lists.specs.Places.{at, placed}
 use Rattle.field.specs.Rows.{allBelow}
 use Rattle.plan.specs.declared.numbers.Plan.{Plan}
 use Rattle.plan.specs.Causes.{first}
-use Rattle.plan.specs.Numbers.{variables, columns, numberCauses, plan}
+use Rattle.plan.specs.Numbers.{variables, columns, numberCauses, radixCauses, plan}
 use Rattle.plan.specs.Parts.{Given, lend}
 use Rattle.store.specs.Calls.{emptyStore, fileCauses, filed, coefficients}
 use Rattle.listing.specs.Printed.{listing, refused}
@@ -34,9 +35,10 @@ use Rattle.lines.specs.Lines.{cutAt, asks, numbers, same}
 pub data Place : Type 0 where
   names : Place
   header : Place
+  radices : Plan → Place
   weights : Given → ℕ → Place
   table : Given → ℕ → Place
-  product : Given → ℕ → Place
+  products : Given → ℕ → Place
   entryNames : Given → Place
   entries : Given → List ℕ → Place
 
@@ -53,17 +55,17 @@ pairNames = 101 ∷ 110 ∷ 116 ∷ 114 ∷ 121 ∷ 32 ∷ 118 ∷ 97 ∷ 108 �
 
 -- what has been read of a part grows at its end
 abbrev pub moreWeights : Given → List ℕ → Given
-moreWeights G xs = lend (G .numbers) (G .weights ++ xs) (G .tables) (G .products)
+moreWeights G xs = lend (G .numbers) (G .radices) (G .weights ++ xs) (G .tables) (G .products)
 
 abbrev pub moreTables : Given → List ℕ → Given
-moreTables G xs = lend (G .numbers) (G .weights) (G .tables ++ xs) (G .products)
+moreTables G xs = lend (G .numbers) (G .radices) (G .weights) (G .tables ++ xs) (G .products)
 
 abbrev pub moreProducts : Given → List ℕ → Given
-moreProducts G xs = lend (G .numbers) (G .weights) (G .tables) (G .products ++ xs)
+moreProducts G xs = lend (G .numbers) (G .radices) (G .weights) (G .tables) (G .products ++ xs)
 
 -- the place after b of the products, and after k of the links
 abbrev pub afterProducts : Given → ℕ → Place
-afterProducts G b = cond (ltb b (G .numbers .t)) (product G b) (entryNames G)
+afterProducts G b = cond (ltb b (G .numbers .t)) (products G b) (entryNames G)
 
 abbrev pub afterLinks : Given → ℕ → Place
 afterLinks G k = cond (ltb k (G .numbers .m)) (weights G k) (afterProducts G 0)
@@ -73,12 +75,16 @@ abbrev pub unless : ℕ → Place → Judged
 unless zero place = next place
 unless (suc k) place = cause (suc k)
 
--- the values line: causes 1 to 3, then "C above 255 in the filing program"
+-- "In text the values line is tested whole before the radices line is read": causes 1 to 3 without radices, then "C above 255 in the filing program"
 abbrev pub headerCauses : Plan → List (ℕ × Bool)
-headerCauses P = numberCauses (P .p) (P .s) (P .n) (P .m) (P .t) ++ ((14, ltb 255 (columns P)) ∷ [])
+headerCauses P = numberCauses (P .p) (P .s) (P .n) (P .m) (P .t) [] ++ ((14, ltb 255 (columns P)) ∷ [])
 
 abbrev pub headerPlan : List ℕ → Plan
 headerPlan ns = plan (at ns 0) (at ns 1) (at ns 2) (at ns 3) (at ns 4)
+
+-- a line of n radices: 13, then 2 over the whole line, then 3
+abbrev pub radicesCauses : ℕ → ℕ → List ℕ → List (ℕ × Bool)
+radicesCauses n p bytes = (13, not (asks 5 n bytes)) ∷ radixCauses p (numbers bytes)
 
 -- a line of n residues modulo p: 13, then 5
 abbrev pub lineCauses : ℕ → ℕ → List ℕ → List (ℕ × Bool)
@@ -96,10 +102,11 @@ unfoldable pub judged : Place → List ℕ → Judged
 judged names bytes = unless (first ((13, not (same bytes planNames)) ∷ [])) header
 judged header bytes =
     let P = headerPlan (numbers bytes) in
-    unless (first ((13, not (asks 5 5 bytes)) ∷ headerCauses P)) (afterLinks (lend P [] [] []) 0)
+    unless (first ((13, not (asks 5 5 bytes)) ∷ headerCauses P)) (radices P)
+judged (radices P) bytes = unless (first (radicesCauses (P .n) (P .p) bytes)) (afterLinks (lend P (numbers bytes) [] [] []) 0)
 judged (weights G k) bytes = unless (first (lineCauses (G .numbers .n + k) (G .numbers .p) bytes)) (table (moreWeights G (numbers bytes)) k)
 judged (table G k) bytes = unless (first (lineCauses (G .numbers .p) (G .numbers .p) bytes)) (afterLinks (moreTables G (numbers bytes)) (suc k))
-judged (product G b) bytes =
+judged (products G b) bytes =
     unless (first (lineCauses (variables (G .numbers)) (G .numbers .p) bytes)) (afterProducts (moreProducts G (numbers bytes)) (suc b))
 judged (entryNames G) bytes = unless (first ((13, not (same bytes pairNames)) ∷ [])) (entries G (emptyStore (G .numbers)))
 judged (entries G S) bytes = unless (first (entryCauses G S bytes)) (entries G (entered G S bytes))
@@ -107,9 +114,10 @@ judged (entries G S) bytes = unless (first (entryCauses G S bytes)) (entries G (
 unfoldable pub ended : Place → ℕ → List ℕ
 ended names j = refused 13 j
 ended header j = refused 13 j
+ended (radices P) j = refused 13 j
 ended (weights G k) j = refused 13 j
 ended (table G k) j = refused 13 j
-ended (product G b) j = refused 13 j
+ended (products G b) j = refused 13 j
 ended (entryNames G) j = refused 13 j
 ended (entries G S) j = listing (G .numbers) (G .weights) (G .products) (coefficients (columns (G .numbers)) S)
 

@@ -31,7 +31,7 @@ pub fn pair_line(plan: Plan, a: usize, b: usize, c: usize, line: &[u8], store: &
     requires { ⌜ Fits (Stage.EntryNames plan a b c) ⌝ }
     requires { ⌜ 65536 ≤ length (now store) ⌝ }
     ensures { λ r. ⌜ Fits r ⌝ }
-    ensures { λ r. ⌜ ((w T d : List ℕ) → judgedOf r w T d (now (store .exit)) ≡ meaning.judged (meaning.entryNames (lend plan (take a w) (take b T) (take c d))) (now (line .entry))) ⌝ }
+    ensures { λ r. ⌜ ((R w T d : List ℕ) → judgedOf r R w T d (now (store .exit)) ≡ meaning.judged (meaning.entryNames (lend plan (take (plan .n) R) (take a w) (take b T) (take c d))) (now (line .entry))) ⌝ }
 {
     if !same(line, b"entry value") {
         return Stage::Stopped(13);
@@ -56,13 +56,14 @@ fn number_of(filed: Filed) -> u8
 fn entry_line(
     plan: Plan,
     line: &[u8],
+    radices: &[u8],
     weights: &[u8],
     tables: &[u8],
     d: &[u8],
     store: &mut [u8],
 ) -> u8
-    ensures { λ r. ⌜ r ≡ first (meaning.entryCauses (lend plan (now (weights .entry)) (now (tables .entry)) (now (d .entry))) (now (store .entry)) (now (line .entry))) ⌝ }
-    ensures { λ r. ⌜ now (store .exit) ≡ result r (meaning.entered (lend plan (now (weights .entry)) (now (tables .entry)) (now (d .entry))) (now (store .entry)) (now (line .entry))) (now (store .entry)) ⌝ }
+    ensures { λ r. ⌜ r ≡ first (meaning.entryCauses (lend plan (now (radices .entry)) (now (weights .entry)) (now (tables .entry)) (now (d .entry))) (now (store .entry)) (now (line .entry))) ⌝ }
+    ensures { λ r. ⌜ now (store .exit) ≡ result r (meaning.entered (lend plan (now (radices .entry)) (now (weights .entry)) (now (tables .entry)) (now (d .entry))) (now (store .entry)) (now (line .entry))) (now (store .entry)) ⌝ }
 {
     let mut v = [0usize; 2];
     if !read_line(line, 5, &mut v) {
@@ -74,6 +75,7 @@ fn entry_line(
         plan.n,
         plan.m,
         plan.t,
+        radices,
         weights,
         tables,
         d,
@@ -91,21 +93,24 @@ pub fn entries_line(
     b: usize,
     c: usize,
     line: &[u8],
+    radices: &[u8],
     weights: &[u8],
     tables: &[u8],
     d: &[u8],
     store: &mut [u8],
 ) -> Stage
     requires { ⌜ Fits (Stage.Entries plan a b c) ⌝ }
-    requires { ⌜ (a ≤ length (now weights)) × (b ≤ length (now tables)) × (c ≤ length (now d)) ⌝ }
+    requires { ⌜ (plan .n ≤ length (now radices)) × (a ≤ length (now weights)) × (b ≤ length (now tables)) × (c ≤ length (now d)) ⌝ }
     requires { ⌜ 65536 ≤ length (now store) ⌝ }
     ensures { λ r. ⌜ Fits r ⌝ }
-    ensures { λ r. ⌜ judgedOf r (now (weights .entry)) (now (tables .entry)) (now (d .entry)) (now (store .exit)) ≡ meaning.judged (meaning.entries (lend plan (take a (now (weights .entry))) (take b (now (tables .entry))) (take c (now (d .entry)))) (take (storeSize (columns plan)) (now (store .entry)))) (now (line .entry)) ⌝ }
+    ensures { λ r. ⌜ judgedOf r (now (radices .entry)) (now (weights .entry)) (now (tables .entry)) (now (d .entry)) (now (store .exit)) ≡ meaning.judged (meaning.entries (lend plan (take (plan .n) (now (radices .entry))) (take a (now (weights .entry))) (take b (now (tables .entry))) (take c (now (d .entry)))) (take (storeSize (columns plan)) (now (store .entry)))) (now (line .entry)) ⌝ }
 {
     let size = store::store_size(plan.columns());
+    let n = plan.n;
     let cause = entry_line(
         plan,
         line,
+        &radices[..n],
         &weights[..a],
         &tables[..b],
         &d[..c],

@@ -11,6 +11,7 @@ ghost use Rattle.text.specs.Meaning as meaning;
 ghost use Rattle.text.specs.Progress.{judgedOf, Planned, Fits};
 use crate::buffers::numbers_buffer;
 use crate::reading::read_part;
+use crate::reading::read_radices;
 use lines::read_line;
 use lines::same;
 use plan::Checked;
@@ -20,6 +21,7 @@ use plan::Plan;
 pub enum Stage {
     Names,
     Header,
+    Radices(Plan),
     Weights(Plan, usize, usize, usize),
     Table(Plan, usize, usize, usize),
     Product(Plan, usize, usize, usize, usize),
@@ -33,7 +35,7 @@ fn after_products(plan: Plan, j: usize, a: usize, b: usize, c: usize) -> Stage
     requires { ⌜ Planned plan ⌝ }
     requires { ⌜ (a ≤ 4096) × (b ≤ 16384) × (c ≤ 64 * j) × (j ≤ 32) ⌝ }
     ensures { λ r. ⌜ Fits r ⌝ }
-    ensures { λ r. ⌜ ((w T d S : List ℕ) → judgedOf r w T d S ≡ meaning.next (meaning.afterProducts (lend plan (take a w) (take b T) (take c d)) j)) ⌝ }
+    ensures { λ r. ⌜ ((R w T d S : List ℕ) → judgedOf r R w T d S ≡ meaning.next (meaning.afterProducts (lend plan (take (plan .n) R) (take a w) (take b T) (take c d)) j)) ⌝ }
 {
     if j < plan.t {
         return Stage::Product(plan, j, a, b, c);
@@ -46,7 +48,7 @@ fn after_links(plan: Plan, k: usize, a: usize, b: usize) -> Stage
     requires { ⌜ Planned plan ⌝ }
     requires { ⌜ (a ≤ 64 * k) × (b ≤ 251 * k) × (k ≤ 63) ⌝ }
     ensures { λ r. ⌜ Fits r ⌝ }
-    ensures { λ r. ⌜ ((w T d S : List ℕ) → judgedOf r w T d S ≡ meaning.next (meaning.afterLinks (lend plan (take a w) (take b T) []) k)) ⌝ }
+    ensures { λ r. ⌜ ((R w T d S : List ℕ) → judgedOf r R w T d S ≡ meaning.next (meaning.afterLinks (lend plan (take (plan .n) R) (take a w) (take b T) []) k)) ⌝ }
 {
     if k < plan.m {
         return Stage::Weights(plan, k, a, b);
@@ -57,7 +59,7 @@ fn after_links(plan: Plan, k: usize, a: usize, b: usize) -> Stage
 // The first names line.
 pub fn names_line(line: &[u8]) -> Stage
     ensures { λ r. ⌜ Fits r ⌝ }
-    ensures { λ r. ⌜ ((w T d S : List ℕ) → judgedOf r w T d S ≡ meaning.judged meaning.names (now (line .entry))) ⌝ }
+    ensures { λ r. ⌜ ((R w T d S : List ℕ) → judgedOf r R w T d S ≡ meaning.judged meaning.names (now (line .entry))) ⌝ }
 {
     if !same(line, b"p s n links products") {
         return Stage::Stopped(13);
@@ -65,24 +67,40 @@ pub fn names_line(line: &[u8]) -> Stage
     Stage::Header
 }
 
-// The values line: 13, causes 1 to 3, then 14.
+// The values line: 13, causes 1 to 3 of its numbers, then 14.
 pub fn header_line(line: &[u8]) -> Stage
     ensures { λ r. ⌜ Fits r ⌝ }
-    ensures { λ r. ⌜ ((w T d S : List ℕ) → judgedOf r w T d S ≡ meaning.judged meaning.header (now (line .entry))) ⌝ }
+    ensures { λ r. ⌜ ((R w T d S : List ℕ) → judgedOf r R w T d S ≡ meaning.judged meaning.header (now (line .entry))) ⌝ }
 {
     let mut v = [0usize; 5];
     if !read_line(line, 5, &mut v) {
         return Stage::Stopped(13);
     }
-    match Plan::new(v[0], v[1], v[2], v[3], v[4]) {
+    match Plan::new(v[0], v[1], v[2], v[3], v[4], b"") {
         Checked::Refused(k) => Stage::Stopped(k),
         Checked::Accepted(plan) => {
             if 255 < plan.columns() {
                 return Stage::Stopped(14);
             }
-            after_links(plan, 0, 0, 0)
+            Stage::Radices(plan)
         }
     }
+}
+
+// The radices line: 13, 2, then 3.
+pub fn radices_line(plan: Plan, line: &[u8], radices: &mut [u8]) -> Stage
+    requires { ⌜ Fits (Stage.Radices plan) ⌝ }
+    requires { ⌜ 64 ≤ length (now radices) ⌝ }
+    ensures { λ r. ⌜ Fits r ⌝ }
+    ensures { λ r. ⌜ ((w T d S : List ℕ) → judgedOf r (now (radices .exit)) w T d S ≡ meaning.judged (meaning.radices plan) (now (line .entry))) ⌝ }
+{
+    let mut read = numbers_buffer();
+    let n = plan.n;
+    let cause = read_radices(line, plan.p, &mut read[..n], &mut radices[..n]);
+    if cause != 0 {
+        return Stage::Stopped(cause);
+    }
+    after_links(plan, 0, 0, 0)
 }
 
 // A line of `count` residues into a buffer, from place `from` on: 13, 5, or 0. A refusal leaves the buffer as it was.
@@ -108,7 +126,7 @@ pub fn weights_line(
     requires { ⌜ Fits (Stage.Weights plan k a b) ⌝ }
     requires { ⌜ 4096 ≤ length (now weights) ⌝ }
     ensures { λ r. ⌜ Fits r ⌝ }
-    ensures { λ r. ⌜ ((T d S : List ℕ) → judgedOf r (now (weights .exit)) T d S ≡ meaning.judged (meaning.weights (lend plan (take a (now (weights .entry))) (take b T) []) k) (now (line .entry))) ⌝ }
+    ensures { λ r. ⌜ ((R T d S : List ℕ) → judgedOf r R (now (weights .exit)) T d S ≡ meaning.judged (meaning.weights (lend plan (take (plan .n) R) (take a (now (weights .entry))) (take b T) []) k) (now (line .entry))) ⌝ }
 {
     let count = plan.n + k;
     let cause = part_line(line, plan.p, a, count, weights);
@@ -123,7 +141,7 @@ pub fn table_line(plan: Plan, k: usize, a: usize, b: usize, line: &[u8], tables:
     requires { ⌜ Fits (Stage.Table plan k a b) ⌝ }
     requires { ⌜ 16384 ≤ length (now tables) ⌝ }
     ensures { λ r. ⌜ Fits r ⌝ }
-    ensures { λ r. ⌜ ((w d S : List ℕ) → judgedOf r w (now (tables .exit)) d S ≡ meaning.judged (meaning.table (lend plan (take a w) (take b (now (tables .entry))) []) k) (now (line .entry))) ⌝ }
+    ensures { λ r. ⌜ ((R w d S : List ℕ) → judgedOf r R w (now (tables .exit)) d S ≡ meaning.judged (meaning.table (lend plan (take (plan .n) R) (take a w) (take b (now (tables .entry))) []) k) (now (line .entry))) ⌝ }
 {
     let count = plan.p as usize;
     let cause = part_line(line, plan.p, b, count, tables);
@@ -146,7 +164,7 @@ pub fn product_line(
     requires { ⌜ Fits (Stage.Product plan j a b c) ⌝ }
     requires { ⌜ 2048 ≤ length (now d) ⌝ }
     ensures { λ r. ⌜ Fits r ⌝ }
-    ensures { λ r. ⌜ ((w T S : List ℕ) → judgedOf r w T (now (d .exit)) S ≡ meaning.judged (meaning.product (lend plan (take a w) (take b T) (take c (now (d .entry)))) j) (now (line .entry))) ⌝ }
+    ensures { λ r. ⌜ ((R w T S : List ℕ) → judgedOf r R w T (now (d .exit)) S ≡ meaning.judged (meaning.products (lend plan (take (plan .n) R) (take a w) (take b T) (take c (now (d .entry)))) j) (now (line .entry))) ⌝ }
 {
     let count = plan.n + plan.m;
     let cause = part_line(line, plan.p, c, count, d);
