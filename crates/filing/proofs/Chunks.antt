@@ -28,19 +28,19 @@ use Rattle.text.proofs.Streaming.{pushes-append, streamed}
 use Rattle.text.proofs.Turning.{Kept, kept-next}
 use Rattle.filing.specs.Input.{most, Fed, output, Printed}
 
-pub record Reading (chunk₀ line₀ w₀ T₀ d₀ S₀ chunk line w T d S : List ℕ) (state : code.State) (count : ℕ) : Type 0 where
+pub record Reading (chunk₀ line₀ R₀ w₀ T₀ d₀ S₀ chunk line R w T d S : List ℕ) (state : code.State) (count : ℕ) : Type 0 where
   pub fits : Fits (state .stage)
   pub held : state .held ≤ 1024
   pub number : state .line ≤ count + 1
-  pub fed : Fed (stateOf state line w T d S) count
+  pub fed : Fed (stateOf state line R w T d S) count
   pub chunk-same : length chunk ≡ length chunk₀
   pub line-same : length line ≡ length line₀
-  pub kept : Kept w₀ T₀ d₀ S₀ w T d S
+  pub kept : Kept R₀ w₀ T₀ d₀ S₀ R w T d S
 
-pub reading-start : (chunk line w T d S : List ℕ) (state : code.State) → Fits (state .stage) × (state .held ≡ 0) × (state .line ≡ 1)
-    → stateOf state line w T d S ≡ start → Reading chunk line w T d S chunk line w T d S state 0
+pub reading-start : (chunk line R w T d S : List ℕ) (state : code.State) → Fits (state .stage) × (state .held ≡ 0) × (state .line ≡ 1)
+    → stateOf state line R w T d S ≡ start → Reading chunk line R w T d S chunk line R w T d S state 0
 unfolding pushes
-reading-start chunk line w T d S state f e =
+reading-start chunk line R w T d S state f e =
     record {
       fits = f .0;
       held = omega (arith, f .1);
@@ -48,16 +48,16 @@ reading-start chunk line w T d S state f e =
       fed = record { text = []; counted = refl; pushed = e };
       chunk-same = refl;
       line-same = refl;
-      kept = (refl, (refl, (refl, (refl, tt))));
+      kept = (refl, (refl, (refl, (refl, (refl, tt)))));
     }
 
-module _ {chunk₀ line₀ w₀ T₀ d₀ S₀ chunk line w T d S : List ℕ} {state : code.State} {count : ℕ} (r : Reading chunk₀ line₀ w₀ T₀ d₀ S₀ chunk line w T d S state count) where
-  pub reading-next : (n : ℕ) (part chunk′ line′ w′ T′ d′ S′ : List ℕ) (state′ : code.State) → n ≡ length part
+module _ {chunk₀ line₀ R₀ w₀ T₀ d₀ S₀ chunk line R w T d S : List ℕ} {state : code.State} {count : ℕ} (r : Reading chunk₀ line₀ R₀ w₀ T₀ d₀ S₀ chunk line R w T d S state count) where
+  pub reading-next : (n : ℕ) (part chunk′ line′ R′ w′ T′ d′ S′ : List ℕ) (state′ : code.State) → n ≡ length part
       → Fits (state′ .stage) × (state′ .held ≤ 1024) × (state′ .line ≤ state .line + length part)
-      → stateOf state′ line′ w′ T′ d′ S′ ≡ pushes (stateOf state line w T d S) part → length chunk′ ≡ length chunk → length line′ ≡ length line
-      → Kept w T d S w′ T′ d′ S′
-      → Reading chunk₀ line₀ w₀ T₀ d₀ S₀ chunk′ line′ w′ T′ d′ S′ state′ (count + n)
-  reading-next n part chunk′ line′ w′ T′ d′ S′ state′ m f e l1 l2 k =
+      → stateOf state′ line′ R′ w′ T′ d′ S′ ≡ pushes (stateOf state line R w T d S) part → length chunk′ ≡ length chunk → length line′ ≡ length line
+      → Kept R w T d S R′ w′ T′ d′ S′
+      → Reading chunk₀ line₀ R₀ w₀ T₀ d₀ S₀ chunk′ line′ R′ w′ T′ d′ S′ state′ (count + n)
+  reading-next n part chunk′ line′ R′ w′ T′ d′ S′ state′ m f e l1 l2 k =
       let text = r .fed .text in
       record {
         fits = f .0;
@@ -70,7 +70,7 @@ module _ {chunk₀ line₀ w₀ T₀ d₀ S₀ chunk line w T d S : List ℕ} {s
         };
         chunk-same = l1 ∙ r .chunk-same;
         line-same = l2 ∙ r .line-same;
-        kept = kept-next w₀ T₀ d₀ S₀ w T d S w′ T′ d′ S′ (r .kept) k;
+        kept = kept-next R₀ w₀ T₀ d₀ S₀ R w T d S R′ w′ T′ d′ S′ (r .kept) k;
       }
 
 unfoldable pub left : ℤ → ℕ → ℕ

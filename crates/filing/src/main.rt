@@ -26,15 +26,16 @@ struct Input {
 fn read_all(
     chunk: &mut [u8],
     line: &mut [u8],
+    radices: &mut [u8],
     weights: &mut [u8],
     tables: &mut [u8],
     d: &mut [u8],
     store: &mut [u8],
 ) -> Input
     requires { ⌜ (0 < length (now chunk)) × (length (now chunk) ≤ 65536) × (1024 ≤ length (now line)) ⌝ }
-    requires { ⌜ BufferSizes (now weights) (now tables) (now d) (now store) ⌝ }
+    requires { ⌜ BufferSizes (now radices) (now weights) (now tables) (now d) (now store) ⌝ }
     ensures { λ r. ⌜ Fits (r .state .stage) × (r .state .held ≤ 1024) ⌝ }
-    ensures { λ r. ⌜ Fed (stateOf (r .state) (now (line .exit)) (now (weights .exit)) (now (tables .exit)) (now (d .exit)) (now (store .exit))) (r .count) ⌝ }
+    ensures { λ r. ⌜ Fed (stateOf (r .state) (now (line .exit)) (now (radices .exit)) (now (weights .exit)) (now (tables .exit)) (now (d .exit)) (now (store .exit))) (r .count) ⌝ }
     ensures { λ r. ⌜ Ended (r .last) (r .count) ⌝ }
 {
     let mut state = text::start();
@@ -43,7 +44,7 @@ fn read_all(
     while last > 0 && count < 4611686018427387904 {
         last = libc::read(libc::STDIN_FILENO, chunk);
         let n = io::count(last, chunk);
-        state = text::feed(state, &chunk[..n], line, weights, tables, d, store);
+        state = text::feed(state, &chunk[..n], line, radices, weights, tables, d, store);
         count += n;
     }
     Input { state, count, last }
@@ -53,6 +54,7 @@ fn read_all(
 fn print_end(
     state: State,
     line: &[u8],
+    radices: &[u8],
     weights: &[u8],
     tables: &[u8],
     d: &[u8],
@@ -61,13 +63,13 @@ fn print_end(
     out: &mut [u8],
 )
     requires { ⌜ Fits (state .stage) × (state .held ≤ 1024) ⌝ }
-    requires { ⌜ SoundState (stateOf state (now line) (now weights) (now tables) (now d) (now store)) ⌝ }
+    requires { ⌜ SoundState (stateOf state (now line) (now radices) (now weights) (now tables) (now d) (now store)) ⌝ }
     requires { ⌜ 1024 ≤ length (now line) ⌝ }
-    requires { ⌜ BufferSizes (now weights) (now tables) (now d) (now store) ⌝ }
+    requires { ⌜ BufferSizes (now radices) (now weights) (now tables) (now d) (now store) ⌝ }
     requires { ⌜ (20000 ≤ length (now steps)) × (131072 ≤ length (now out)) ⌝ }
-    ensures { λ _. ⌜ now (out .exit) ≡ placed (now (out .entry)) 0 (streaming.finish (stateOf state (now (line .entry)) (now (weights .entry)) (now (tables .entry)) (now (d .entry)) (now (store .entry)))) ⌝ }
+    ensures { λ _. ⌜ now (out .exit) ≡ placed (now (out .entry)) 0 (streaming.finish (stateOf state (now (line .entry)) (now (radices .entry)) (now (weights .entry)) (now (tables .entry)) (now (d .entry)) (now (store .entry)))) ⌝ }
 {
-    let end = text::finish(state, line, weights, tables, d, store, steps, out);
+    let end = text::finish(state, line, radices, weights, tables, d, store, steps, out);
     if !io::write_all(libc::STDOUT_FILENO, &out[..end]) {
         os::fail(b"standard output");
     }
@@ -77,6 +79,7 @@ fn print_end(
 fn run(
     chunk: &mut [u8],
     line: &mut [u8],
+    radices: &mut [u8],
     weights: &mut [u8],
     tables: &mut [u8],
     d: &mut [u8],
@@ -85,15 +88,15 @@ fn run(
     out: &mut [u8],
 ) -> Input
     requires { ⌜ (0 < length (now chunk)) × (length (now chunk) ≤ 65536) × (1024 ≤ length (now line)) ⌝ }
-    requires { ⌜ BufferSizes (now weights) (now tables) (now d) (now store) ⌝ }
+    requires { ⌜ BufferSizes (now radices) (now weights) (now tables) (now d) (now store) ⌝ }
     requires { ⌜ (20000 ≤ length (now steps)) × (131072 ≤ length (now out)) ⌝ }
     ensures { λ r. ⌜ Printed (r .count) (r .last) (now (out .entry)) (now (out .exit)) ⌝ }
 {
-    let input = read_all(chunk, line, weights, tables, d, store);
+    let input = read_all(chunk, line, radices, weights, tables, d, store);
     let state = input.state;
     let last = input.last;
     if last == 0 {
-        print_end(state, line, weights, tables, d, store, steps, out);
+        print_end(state, line, radices, weights, tables, d, store, steps, out);
     } else {
         os::fail(b"standard input");
     }
@@ -103,6 +106,7 @@ fn run(
 fn main() {
     let mut chunk = io::large_buffer();
     let mut line = text::line_buffer();
+    let mut radices = text::radices_buffer();
     let mut weights = text::weights_buffer();
     let mut tables = text::tables_buffer();
     let mut d = text::products_buffer();
@@ -112,6 +116,7 @@ fn main() {
     run(
         &mut chunk,
         &mut line,
+        &mut radices,
         &mut weights,
         &mut tables,
         &mut d,
