@@ -12,12 +12,12 @@ use Rattle.filing.proofs.print_end.Statement.{statement}
 use Rattle.filing.proofs.print_end.Tie as tie
 
 abbrev start : tie.After-finish-arg2 → tie.Start
-start c = c .before .before .before .before .before .before .before .before .before
+start c = c .before .before .before .before .before .before .before .before .before .before
 
-fits : (c : tie.After-finish) → c .finish .result ≤ length (c .finish .last .1 .1 .1 .1 .1 .1 .1 .0)
+fits : (c : tie.After-finish) → c .finish .result ≤ length (c .finish .last .1 .1 .1 .1 .1 .1 .1 .1 .0)
 fits c =
     let a = start (c .before) .args in
-    omega (arith, printed-fits (a .out .now) _ (finish (stateOf (a .state) (a .line .now) (a .weights .now) (a .tables .now) (a .d .now) (a .store .now))) (c .finish .ensures .0) (c .finish .kept .1 .1 .1 .1 .1 .1 .1 .0), c .finish .ensures .1)
+    omega (arith, printed-fits (a .out .now) _ (finish (stateOf (a .state) (a .line .now) (a .radices .now) (a .weights .now) (a .tables .now) (a .d .now) (a .store .now))) (c .finish .ensures .0) (c .finish .kept .1 .1 .1 .1 .1 .1 .1 .1 .0), c .finish .ensures .1)
 
 finish-requires : tie.Need-finish-requires
 finish-requires c κs =

@@ -14,17 +14,17 @@ use Rattle.filing.proofs.read_all.Statement.{statement}
 use Rattle.filing.proofs.read_all.Tie as tie
 
 abbrev Inv-loop : tie.InvT-loop
-Inv-loop chunk₀ line₀ weights₀ tables₀ d₀ store₀ state₀ count₀ last₀ chunk line weights tables d store state count last = Reading chunk₀ line₀ weights₀ tables₀ d₀ store₀ chunk line weights tables d store state count
+Inv-loop chunk₀ line₀ radices₀ weights₀ tables₀ d₀ store₀ state₀ count₀ last₀ chunk line radices weights tables d store state count last = Reading chunk₀ line₀ radices₀ weights₀ tables₀ d₀ store₀ chunk line radices weights tables d store state count
 
 abbrev μ-loop : tie.MeasureT-loop
-μ-loop chunk₀ line₀ weights₀ tables₀ d₀ store₀ state₀ count₀ last₀ chunk line weights tables d store state count last = left (toZ w64 last) count
+μ-loop chunk₀ line₀ radices₀ weights₀ tables₀ d₀ store₀ state₀ count₀ last₀ chunk line radices weights tables d store state count last = left (toZ w64 last) count
 
 -- a turn from its test on: what was read, counted and fed; the loop, and the function's start
-abbrev counted : tie.After-feed-arg6 Inv-loop μ-loop → tie.After-count Inv-loop μ-loop
-counted c = c .before .before .before .before .before .before
+abbrev counted : tie.After-feed-arg7 Inv-loop μ-loop → tie.After-count Inv-loop μ-loop
+counted c = c .before .before .before .before .before .before .before
 
-abbrev fed : tie.After-slice-known12 Inv-loop μ-loop → tie.After-feed Inv-loop μ-loop
-fed c = c .before .before .before .before .before .before .before .before .before .before
+abbrev fed : tie.After-slice-known14 Inv-loop μ-loop → tie.After-feed Inv-loop μ-loop
+fed c = c .before .before .before .before .before .before .before .before .before .before .before .before
 
 abbrev reads : tie.After-count Inv-loop μ-loop → tie.After-read Inv-loop μ-loop
 reads c = c .before .before .before .before
@@ -33,7 +33,7 @@ abbrev loop : tie.After-count Inv-loop μ-loop → tie.At-loop Inv-loop μ-loop
 loop c = reads c .before .before .before .before
 
 abbrev start : tie.At-loop Inv-loop μ-loop → tie.Start Inv-loop μ-loop
-start c = c .before .before .before .before .before .before .before .before
+start c = c .before .before .before .before .before .before .before .before .before
 
 -- there is room for the bytes of one read more
 few : (c : tie.After-count Inv-loop μ-loop) → loop c .loop .count + c .count .result ≤ most + 65536
@@ -45,7 +45,7 @@ start-requires : tie.Need-start-requires Inv-loop μ-loop
 start-requires c κs = tt
 
 loop-holds : tie.Need-loop-holds Inv-loop μ-loop
-loop-holds c = reading-start _ _ _ _ _ _ _ (c .start .ensures .0) (c .start .ensures .1 _ _ _ _ _)
+loop-holds c = reading-start _ _ _ _ _ _ _ _ (c .start .ensures .0) (c .start .ensures .1 _ _ _ _ _ _)
 
 read-requires : tie.Need-read-requires Inv-loop μ-loop
 read-requires c κs = tt
@@ -82,7 +82,7 @@ loop-again : tie.Need-loop-again Inv-loop μ-loop
 loop-again c =
     let feed = fed c .feed in
     let n = counted (fed c .before) in
-    reading-next (loop n .loop .inv) _ _ _ _ _ _ _ _ _ (n .count .ensures .0 .1) (feed .ensures .0) (feed .ensures .1) (reads n .read .kept .1 .0) (feed .kept .1 .1 .0) (feed .kept .1 .1 .1)
+    reading-next (loop n .loop .inv) _ _ _ _ _ _ _ _ _ _ (n .count .ensures .0 .1) (feed .ensures .0) (feed .ensures .1) (reads n .read .kept .1 .0) (feed .kept .1 .1 .0) (feed .kept .1 .1 .1)
 
 same-length : tie.Need-same-length Inv-loop μ-loop
 same-length c = c .before .before .loop .inv .chunk-same
@@ -102,28 +102,34 @@ same-length-5 c = c .before .before .loop .inv .kept .1 .1 .0
 same-length-6 : tie.Need-same-length-6 Inv-loop μ-loop
 same-length-6 c = c .before .before .loop .inv .kept .1 .1 .1 .0
 
+same-length-7 : tie.Need-same-length-7 Inv-loop μ-loop
+same-length-7 c = c .before .before .loop .inv .kept .1 .1 .1 .1 .0
+
 returns : tie.Need-returns Inv-loop μ-loop
 returns c =
     let reading = c .before .before .loop .inv in
     ((reading .fits, reading .held), (reading .fed, (λ more. ltb-false _ _ (c .if1 .left))))
 
-same-length-7 : tie.Need-same-length-7 Inv-loop μ-loop
-same-length-7 c = c .before .loop .inv .chunk-same
-
 same-length-8 : tie.Need-same-length-8 Inv-loop μ-loop
-same-length-8 c = c .before .loop .inv .line-same
+same-length-8 c = c .before .loop .inv .chunk-same
 
 same-length-9 : tie.Need-same-length-9 Inv-loop μ-loop
-same-length-9 c = c .before .loop .inv .kept .0
+same-length-9 c = c .before .loop .inv .line-same
 
 same-length-10 : tie.Need-same-length-10 Inv-loop μ-loop
-same-length-10 c = c .before .loop .inv .kept .1 .0
+same-length-10 c = c .before .loop .inv .kept .0
 
 same-length-11 : tie.Need-same-length-11 Inv-loop μ-loop
-same-length-11 c = c .before .loop .inv .kept .1 .1 .0
+same-length-11 c = c .before .loop .inv .kept .1 .0
 
 same-length-12 : tie.Need-same-length-12 Inv-loop μ-loop
-same-length-12 c = c .before .loop .inv .kept .1 .1 .1 .0
+same-length-12 c = c .before .loop .inv .kept .1 .1 .0
+
+same-length-13 : tie.Need-same-length-13 Inv-loop μ-loop
+same-length-13 c = c .before .loop .inv .kept .1 .1 .1 .0
+
+same-length-14 : tie.Need-same-length-14 Inv-loop μ-loop
+same-length-14 c = c .before .loop .inv .kept .1 .1 .1 .1 .0
 
 returns-2 : tie.Need-returns-2 Inv-loop μ-loop
 returns-2 c =
@@ -152,11 +158,13 @@ read-all-spec =
     same-length-4
     same-length-5
     same-length-6
-    returns
     same-length-7
+    returns
     same-length-8
     same-length-9
     same-length-10
     same-length-11
     same-length-12
+    same-length-13
+    same-length-14
     returns-2)

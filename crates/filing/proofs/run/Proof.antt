@@ -8,14 +8,14 @@ use Rattle.filing.proofs.run.Tie as tie
 
 -- where all is read, from the test of its end, and the function's start
 abbrev read : tie.After-struct-told → tie.After-read-all
-read c = c .before .before .before .before .before .before .before .before .before .before .before .before .before .before
+read c = c .before .before .before .before .before .before .before .before .before .before .before .before .before .before .before .before
 
 abbrev start : tie.After-read-all → tie.Start
-start c = c .before .before .before .before .before .before .before .before .before .before .before .before .before .before .before
+start c = c .before .before .before .before .before .before .before .before .before .before .before .before .before .before .before .before .before
 
 -- the end of the text, from what is lent to print it
-abbrev ends : tie.After-print-end-arg7 → tie.Then1
-ends c = c .before .before .before .before .before .before .before
+abbrev ends : tie.After-print-end-arg8 → tie.Then1
+ends c = c .before .before .before .before .before .before .before .before
 
 read-all-requires : tie.Need-read-all-requires
 read-all-requires c κs = search needs
@@ -57,14 +57,14 @@ same-length-7 c = search needs
 same-length-8 : tie.Need-same-length-8
 same-length-8 c = search needs
 
+same-length-9 : tie.Need-same-length-9
+same-length-9 c = search needs
+
 returns : tie.Need-returns
 returns c =
     let printed = c .before .before .before .before in
     let end = ends (printed .before) in
     printed-end (read (end .before) .read-all .ensures .1 .0) _ _ _ (search needs) (end .if1 .taken) (printed .print-end .ensures)
-
-same-length-9 : tie.Need-same-length-9
-same-length-9 c = search needs
 
 same-length-10 : tie.Need-same-length-10
 same-length-10 c = search needs
@@ -80,6 +80,12 @@ same-length-13 c = search needs
 
 same-length-14 : tie.Need-same-length-14
 same-length-14 c = search needs
+
+same-length-15 : tie.Need-same-length-15
+same-length-15 c = search needs
+
+same-length-16 : tie.Need-same-length-16
+same-length-16 c = search needs
 
 returns-2 : tie.Need-returns-2
 returns-2 c =
@@ -102,11 +108,13 @@ run-spec =
     same-length-6
     same-length-7
     same-length-8
-    returns
     same-length-9
+    returns
     same-length-10
     same-length-11
     same-length-12
     same-length-13
     same-length-14
+    same-length-15
+    same-length-16
     returns-2)
