@@ -1,5 +1,5 @@
--- The meaning of texts: 01's XOR example with its radices, byte for byte, and a refusal of each kind. One collected table of facts about the definition;
--- each computes. A quoted text stands for its bytes, `\n` for the LF. Assumes nothing.
+-- The meaning of texts: 01's XOR example with its radices, byte for byte, and a refusal of each kind. One collected table of facts about the
+-- definition; each computes. A quoted text stands for its bytes, `\n` for the LF. Assumes nothing.
 use mathlib.Core.Path.{_≡_, refl}
 use mathlib.Core.List.{List, [], _∷_}
 use Prim.Native.Nat.{ℕ}

@@ -19,6 +19,7 @@ use Rattle.text.specs.declared.turns.State.{State}
 use Rattle.text.specs.declared.stages.Stage.{Stage}
 use Rattle.text.specs.declared.stages.Stage.the-variants.{Names, Header, Radices, Weights, Table, Product, EntryNames, Entries, Stopped}
 
+-- behind the radices line the first n bytes of R are the radices
 abbrev pub judgedOf : Stage → List ℕ → List ℕ → List ℕ → List ℕ → List ℕ → Judged
 judgedOf Names R w T d S = next names
 judgedOf Header R w T d S = next header
