@@ -235,7 +235,10 @@ fn on_program(
         numbers(steps);
         return;
     }
-    say(b"length", handed(held, radices, weights, tables, d, beta, steps));
+    say(
+        b"length",
+        handed(held, radices, weights, tables, d, beta, steps),
+    );
     numbers(steps);
 }
 
@@ -329,7 +332,16 @@ pub fn with_store(
     let tables = front(&parts[3], held[11]);
     let d = front(&parts[4], held[12]);
     match k {
-        10 | 11 => on_plan(k, held, radices, weights, tables, d, lent(row, held[14]), args[0]),
+        10 | 11 => on_plan(
+            k,
+            held,
+            radices,
+            weights,
+            tables,
+            d,
+            lent(row, held[14]),
+            args[0],
+        ),
         13 => file(
             held,
             radices,
