@@ -5,6 +5,7 @@ pub mod Radix
 pub mod Limits
 pub mod Admitting
 pub mod Digits
+pub mod OneRadix
 pub mod Chains
 pub mod Blocks
 pub mod Reproduction
