@@ -19,10 +19,10 @@ use Rattle.field.specs.Rows.{allBelow}
 use Rattle.field.proofs.Ranges.{residues-of}
 use Rattle.plan.specs.declared.numbers.Plan.{Plan}
 use Rattle.plan.specs.Causes.{first}
-use Rattle.plan.specs.Numbers.{variables, columns, product, radicesFit, numberCauses, radixCauses, Within, Radices}
+use Rattle.plan.specs.Numbers.{variables, columns, product, radicesFit, numberCauses, Within, Radices}
 use Rattle.plan.specs.Parts.{Given, lend, Lent}
 use Rattle.plan.proofs.Bounds.{prime-low}
-use Rattle.plan.proofs.Refusals.{first-none}
+use Rattle.plan.proofs.Refusals.{first-none, none-met}
 use Rattle.plan.proofs.Limits.{within-of}
 use Rattle.store.specs.Calls.{emptyStore, fileCauses}
 use Rattle.store.proofs.Readiness.{empty-ready, unmet, filed-ready}
@@ -156,13 +156,11 @@ planned-of P e =
 -- the radices line: n radices, each 2 to p, with a product within the limit
 radices-line : (P : Plan) (line : List ℕ) → first (radicesCauses (P .n) (P .p) line) ≡ 0 → Radices P (numbers line)
 radices-line P line e =
-    let a = passed 13 (not (asks 5 (P .n) line)) (first (radixCauses (P .p) (numbers line))) (omega arith) e in
-    let b = passed 2 (not (radicesFit (P .p) (numbers line))) (first ((3, ltb 4096 (product (numbers line))) ∷ [])) (omega arith) (a .1) in
-    let c = passed 3 (ltb 4096 (product (numbers line))) 0 (omega arith) (b .1) in
+    let none = none-met (radicesCauses (P .n) (P .p) line) (omega arith) e in
     record {
-      count = asks-count 5 (P .n) line (not-false (asks 5 (P .n) line) (a .0));
-      fit = not-false (radicesFit (P .p) (numbers line)) (b .0);
-      limit = ltb-false 4096 (product (numbers line)) (c .0);
+      count = asks-count 5 (P .n) line (not-false (asks 5 (P .n) line) (none .0));
+      fit = not-false (radicesFit (P .p) (numbers line)) (none .1 .0);
+      limit = ltb-false 4096 (product (numbers line)) (none .1 .1 .0);
     }
 
 pub sound-judged : (place : Place) (line : List ℕ) (after : Place) → Sound place → judged place line ≡ next after → Sound after
