@@ -10,19 +10,19 @@ ghost use Rattle.plan.specs.Parts.{Lent, lend};
 ghost use Rattle.plan.specs.Rows as specs;
 use crate::numbers::Plan;
 
-// The digits of an entry, the most significant first: q is the product of the radices from the digit on.
+// The digits of an entry, the last and least significant first: `rest` is the entry without the digits that are written.
 fn fill_digits(plan: Plan, radices: &[u8], entry: usize, x: &mut [u8])
     requires { ⌜ Radices plan (now radices) ⌝ }
     requires { ⌜ length (now x) ≡ plan .n ⌝ }
     ensures { λ _. ⌜ now (x .exit) ≡ tab (plan .n) (specs.digit (now (radices .entry)) entry) ⌝ }
 {
-    let mut q = plan.entries(radices);
-    let mut j = 0;
-    while j < plan.n {
+    let mut rest = entry;
+    let mut j = plan.n;
+    while 0 < j {
+        j -= 1;
         let r = radices[j] as usize;
-        q = q / r;
-        x[j] = (entry / q % r) as u8;
-        j += 1;
+        x[j] = (rest % r) as u8;
+        rest = rest / r;
     }
 }
 
