@@ -1,7 +1,8 @@
 -- The constructor's answer, and what it says of the plan's numbers and radices.
 --     within-of, radices-of                                      numbers and radices that meet none of causes 1 to 3 are within their limits
 --     refused-number, accepted-plan                              what the constructor's answer says
---     refused-prime, refused-radix, refused-range, accepts       its answer from the facts about its numbers
+--     out-of-range                                               numbers that break a limit
+--     refused-prime .. refused-product, accepts                  its answer from its tests
 -- Assumes nothing.
 use mathlib.Core.Path.{_≡_, ap, subst}
 use mathlib.Core.Bool.{true, false, not, _||_}
@@ -9,7 +10,7 @@ use mathlib.Core.List.{List}
 use Prim.Native.Nat.{ℕ, _+_, _*_, _≤_, _<_}
 use native.Mathlib.Omega.{arith}
 use lib.Dec.{ltb}
-use borrow.Author.Tests.{ltb-false, le-ltb, not-false}
+use borrow.Author.Tests.{ltb-false, lt-ltb, le-ltb, not-false}
 use Rattle.lists.specs.Places.{at}
 use Rattle.field.specs.Primes.{oddPrime}
 use Rattle.plan.specs.Causes.{first}
@@ -17,7 +18,7 @@ use Rattle.plan.specs.Numbers.{product, badRadix, radicesFit, outOfRange
 use Rattle.plan.specs.declared.numbers.Plan.{Plan}
 use Rattle.plan.specs.declared.numbers.Checked.the-variants.{Accepted, Refused}
 use Rattle.plan.proofs.Refusals.{none-met, answer-refuses, answer-gives}
-use Rattle.plan.proofs.Radix.{neither, decided, radix-facts, good-radix}
+use Rattle.plan.proofs.Radix.{neither, decided, radix-facts}
 
 InRange : ℕ → ℕ → ℕ → Type 0
 InRange n m t = (1 ≤ n) × (n + m ≤ 64) × (t ≤ 32) × ((t + 1) * (n + m) ≤ 1024)
@@ -30,9 +31,9 @@ range-facts n m t h =
     let r3 = neither (ltb 32 t) (ltb 1024 ((t + 1) * (n + m))) (r2 .1) in
     (ltb-false n 1 (r1 .0), ltb-false 64 (n + m) (r2 .0), ltb-false 32 t (r3 .0), ltb-false 1024 ((t + 1) * (n + m)) (r3 .1))
 
-in-range : (n m t : ℕ) → 1 ≤ n → n + m ≤ 64 → t ≤ 32 → (t + 1) * (n + m) ≤ 1024 → outOfRange n m t ≡ false
-unfolding outOfRange
-in-range n m t h1 h2 h3 h4 = rw (le-ltb n 1 h1, le-ltb 64 (n + m) h2, le-ltb 32 t h3, le-ltb 1024 ((t + 1) * (n + m)) h4)
+pub out-of-range : (n m t : ℕ) → (1 ≤ n → n + m ≤ 64 → t ≤ 32 → (t + 1) * (n + m) ≤ 1024 → ⊥) → outOfRange n m t ≡ true
+unfolding InRange
+out-of-range n m t h = decided (outOfRange n m t) (λ e. let r = range-facts n m t e in h (r .0) (r .1) (r .2) (r .3))
 
 module _ (p s n m t : ℕ) (R : List ℕ) where
   pub within-of : first (numberCauses p s n m t R) ≡ 0 → Within (plan p s n m t)
@@ -76,34 +77,32 @@ module _ (p s n m t : ℕ) (R : List ℕ) where
   pub accepted-within : {Q : Plan} → checked p s n m t R ≡ answerOf (Accepted Q) → Within Q
   accepted-within e = let a = accepted-plan e in subst Within (a .1) (within-of p s n m t R (a .0))
 
--- the constructor's answers
+-- the constructor's answers, test by test
 module _ (p s n m t : ℕ) (R : List ℕ) where
   pub refused-prime : oddPrime p ≡ false → answerOf (Refused 1) ≡ checked p s n m t R
   unfolding checked answerOf
-  refused-prime h = rw h
+  refused-prime e = rw e
 
   module _ (prime : oddPrime p ≡ true) where
-    pub refused-radix : (2 ≤ s → s ≤ p → radicesFit p R ≡ true → ⊥) → answerOf (Refused 2) ≡ checked p s n m t R
+    pub refused-value : badRadix p s ≡ true → answerOf (Refused 2) ≡ checked p s n m t R
     unfolding checked answerOf
-    refused-radix h = rw (prime, bad)
-      where
-        bad : (badRadix p s || not (radicesFit p R)) ≡ true
-        bad = decided (badRadix p s || not (radicesFit p R)) (λ e.
-            let fit = neither (badRadix p s) (not (radicesFit p R)) e in
-            let value = radix-facts p s (fit .0) in
-            h (value .0) (value .1) (not-false (radicesFit p R) (fit .1)))
+    refused-value e = rw (prime, e)
 
-    module _ (low : 2 ≤ s) (high : s ≤ p) (fit : radicesFit p R ≡ true) where
-      pub refused-range : (1 ≤ n → n + m ≤ 64 → t ≤ 32 → (t + 1) * (n + m) ≤ 1024 → product R ≤ 4096 → ⊥) → answerOf (Refused 3) ≡ checked p s n m t R
-      unfolding checked answerOf InRange
-      refused-range h = rw (prime, good-radix p s low high, fit, far)
-        where
-          far : (outOfRange n m t || ltb 4096 (product R)) ≡ true
-          far = decided (outOfRange n m t || ltb 4096 (product R)) (λ e.
-              let near = neither (outOfRange n m t) (ltb 4096 (product R)) e in
-              let r = range-facts n m t (near .0) in
-              h (r .0) (r .1) (r .2) (r .3) (ltb-false 4096 (product R) (near .1)))
-
-      pub accepts : 1 ≤ n → n + m ≤ 64 → t ≤ 32 → (t + 1) * (n + m) ≤ 1024 → product R ≤ 4096 → answerOf (Accepted (plan p s n m t)) ≡ checked p s n m t R
+    module _ (value : badRadix p s ≡ false) where
+      pub refused-radices : radicesFit p R ≡ false → answerOf (Refused 2) ≡ checked p s n m t R
       unfolding checked answerOf
-      accepts h1 h2 h3 h4 h5 = rw (prime, good-radix p s low high, fit, in-range n m t h1 h2 h3 h4, le-ltb 4096 (product R) h5)
+      refused-radices e = rw (prime, value, e)
+
+      module _ (fit : radicesFit p R ≡ true) where
+        pub refused-range : outOfRange n m t ≡ true → answerOf (Refused 3) ≡ checked p s n m t R
+        unfolding checked answerOf
+        refused-range e = rw (prime, value, fit, e)
+
+        module _ (range : outOfRange n m t ≡ false) where
+          pub refused-product : 4096 < product R → answerOf (Refused 3) ≡ checked p s n m t R
+          unfolding checked answerOf
+          refused-product l = rw (prime, value, fit, range, lt-ltb 4096 (product R) l)
+
+          pub accepts : product R ≤ 4096 → answerOf (Accepted (plan p s n m t)) ≡ checked p s n m t R
+          unfolding checked answerOf
+          accepts l = rw (prime, value, fit, range, le-ltb 4096 (product R) l)

@@ -1,5 +1,6 @@
 -- The radices and their product.
---     radix-facts, good-radix                      what the test of one radix says, and of s
+--     at-most                                      the two tests of a ≤ b
+--     radix-facts                                  what the test of one radix says, and of s
 --     radices-at, radices-positive                 the test of the radices says that each is 2 to p, so none is 0
 --     product-next, product-split, product-drop    the product with a radix more at the end, cut in two, and with its first radix apart
 --     product-front, drop-positive                 no product of the first radices is above it; that of the last ones is not 0
@@ -9,12 +10,13 @@ use mathlib.Core.Bool.{Bool, true, false, not, _||_, true≢false}
 use mathlib.Core.List.{List, [], _∷_, _++_}
 use Prim.Native.Nat.{ℕ, suc, _+_, _-_, _*_, _≤_, _<_}
 use native.Mathlib.Nat.{mul-assoc, mul-one, one-mul, mul-le-mul-left}
+use native.Mathlib.Decide.{decLt}
 use native.Mathlib.Numerals.{add-one}
 use native.Mathlib.Omega.{arith}
-use lib.Dec.{ltb}
+use lib.Dec.{leb, ltb}
 use lib.ListN.{length, take, drop, length-drop, take-append-drop}
 use lib.Seq.{take-suc, drop-cons, getD-drop}
-use borrow.Author.Tests.{ltb-false, le-ltb, not-true}
+use borrow.Author.Tests.{ltb-false, lt-ltb, le-ltb, le-leb, lt-leb, not-true}
 use Rattle.lists.specs.Places.{every, at}
 use Rattle.lists.proofs.Tests.{every-at}
 use Rattle.plan.specs.Numbers.{product, badRadix, radicesFit}
@@ -28,13 +30,15 @@ pub decided : (b : Bool) → (b ≡ false → ⊥) → b ≡ true
 decided true h = refl
 decided false h = absurd (h refl)
 
+pub at-most : (a b : ℕ) → leb a b ≡ not (ltb b a)
+at-most a b = elim (decLt b a) [
+  | yes l ↦ lt-leb a b l ∙ ap not (sym (lt-ltb b a l))
+  | no h ↦ let l : a ≤ b = omega arith in le-leb a b l ∙ ap not (sym (le-ltb b a l))
+]
+
 pub radix-facts : (p r : ℕ) → badRadix p r ≡ false → (2 ≤ r) × (r ≤ p)
 unfolding badRadix
 radix-facts p r h = let hs = neither (ltb r 2) (ltb p r) h in (ltb-false r 2 (hs .0), ltb-false p r (hs .1))
-
-pub good-radix : (p r : ℕ) → 2 ≤ r → r ≤ p → badRadix p r ≡ false
-unfolding badRadix
-good-radix p r low high = rw (le-ltb r 2 low, le-ltb p r high)
 
 module _ (p : ℕ) (R : List ℕ) (fit : radicesFit p R ≡ true) where
   pub radices-at : (j : ℕ) → j < length R → (2 ≤ at R j) × (at R j ≤ p)

@@ -8,8 +8,8 @@ ghost use Rattle.plan.specs.Causes.{first};
 ghost use Rattle.plan.specs.Numbers as specs;
 use crate::numbers::Plan;
 
-// Whether a radix is 2 to p.
-fn radix_fits(r: u8, p: u8) -> bool
+// Whether a radix, or the bound of table values, is 2 to p.
+pub fn radix_fits(r: usize, p: usize) -> bool
     ensures { λ f. ⌜ f ≡ not (specs.badRadix p r) ⌝ }
 {
     if r < 2 {
@@ -24,7 +24,7 @@ pub fn radices_fit(radices: &[u8], p: u8) -> bool
 {
     let mut j = 0;
     while j < radices.len() {
-        if !radix_fits(radices[j], p) {
+        if !radix_fits(radices[j] as usize, p as usize) {
             return false;
         }
         j += 1;

@@ -36,6 +36,9 @@ loop-holds c = (omega arith, refl)
 shared-slice-read-radix-fits : tie.Need-shared-slice-read-radix-fits Inv-loop μ-loop
 shared-slice-read-radix-fits c = omega arith
 
+cast-radix-fits : tie.Need-cast-radix-fits Inv-loop μ-loop
+cast-radix-fits c = omega (arith, c .shared-slice-known2 .given (c .before .before .loop .j))
+
 radix-fits-requires : tie.Need-radix-fits-requires Inv-loop μ-loop
 radix-fits-requires c κs = tt
 
@@ -76,6 +79,7 @@ radices-fit-spec =
     μ-loop
     loop-holds
     shared-slice-read-radix-fits
+    cast-radix-fits
     radix-fits-requires
     returns
     add-j
