@@ -48,7 +48,7 @@ module _ (p s n m t : ℕ) (R : List ℕ) where
         value-high = value .1;
         digit-count = range .0;
         variable-limit = range .1;
-        product-limit = range .2;
+        products-limit = range .2;
         column-limit = range .3;
       }
 

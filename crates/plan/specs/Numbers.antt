@@ -77,7 +77,7 @@ pub record Within (P : Plan) : Type 0 where
   pub value-high : P .s ≤ P .p
   pub digit-count : 1 ≤ P .n
   pub variable-limit : P .n + P .m ≤ 64
-  pub product-limit : P .t ≤ 32
+  pub products-limit : P .t ≤ 32
   pub column-limit : (P .t + 1) * (P .n + P .m) ≤ 1024
 
 pub record Radices (P : Plan) (R : List ℕ) : Type 0 where

@@ -172,4 +172,4 @@ pub step-limit : (P : Plan) → Within P → stepCount P ≤ 5000
 unfolding stepCount
 step-limit P within =
     let whole : (P .n + P .m) * (P .n + P .m) ≤ 64 * 64 = mul-le-mul (within .variable-limit) (within .variable-limit) in
-    omega (arith, whole, one-less (P .m), within .column-limit, within .product-limit, within .variable-limit)
+    omega (arith, whole, one-less (P .m), within .column-limit, within .products-limit, within .variable-limit)

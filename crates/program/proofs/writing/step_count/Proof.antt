@@ -24,7 +24,7 @@ links c =
 products : (c : tie.After-variables) → start c .args .plan .t * (2 * c .variables .result + 12) ≤ 32 * 140
 products c =
     let b : 2 * c .variables .result + 12 ≤ 140 = omega (arith, start c .pre .variable-limit, c .variables .ensures) in
-    mul-le-mul (start c .pre .product-limit) b
+    mul-le-mul (start c .pre .products-limit) b
 
 variables-requires : tie.Need-variables-requires
 variables-requires c κs = search needs
