@@ -1,9 +1,11 @@
 -- An answer's number and values tell its case: a contract on `answerOf` says which value of the enum is returned.
---     checkedOf, filedOf, ranOf, normedOf                  the case with these values, or with this number
---     checked-told, filed-told, ran-told, normed-told      of an answer's number and values, it is that answer
+--     checkedOf, filedOf, settledOf, ranOf, normedOf                     the case with these values, or with this number
+--     checked-told, filed-told, settled-told, ran-told, normed-told      of an answer's number and values, it is that answer
 -- Assumes nothing.
 use mathlib.Core.Path.{_≡_, refl}
+use mathlib.Core.Bool.{cond}
 use mathlib.Core.List.{[], _∷_}
+use lib.Dec.{eqb}
 use Rattle.lists.specs.Places.{at}
 use Rattle.plan.specs.Causes.{Answer, gives, refuses}
 use Rattle.plan.specs.Numbers as plans
@@ -12,6 +14,9 @@ use Rattle.plan.specs.declared.numbers.Checked.the-variants as checked
 use Rattle.store.specs.Calls as stores
 use Rattle.store.specs.declared.elimination.Filed.{Filed}
 use Rattle.store.specs.declared.elimination.Filed.the-variants as filed
+use Rattle.store.specs.Settled as settling
+use Rattle.store.specs.declared.settling.Settled.{Settled}
+use Rattle.store.specs.declared.settling.Settled.the-variants as settled
 use Rattle.program.specs.Calls as programs
 use Rattle.program.specs.declared.running.Ran.{Ran}
 use Rattle.program.specs.declared.running.Ran.the-variants as ran
@@ -37,6 +42,15 @@ pub filed-told : (a : Filed) → filedOf (stores.answerOf a) ≡ a
 filed-told (filed.New c) = refl
 filed-told filed.Implied = refl
 filed-told (filed.Refused k) = refl
+
+abbrev settledOf : Answer → Settled
+settledOf (gives vs) = cond (eqb (at vs 0) 0) (settled.Forced (at vs 1)) (settled.Free (at vs 1))
+settledOf (refuses k) = settled.Refused k
+
+pub settled-told : (a : Settled) → settledOf (settling.answerOf a) ≡ a
+settled-told (settled.Forced v) = refl
+settled-told (settled.Free c) = refl
+settled-told (settled.Refused k) = refl
 
 abbrev ranOf : Answer → Ran
 ranOf (gives vs) = ran.Done (at vs 0) (at vs 1)

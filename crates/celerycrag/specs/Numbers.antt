@@ -2,9 +2,13 @@
 -- refusal leaves alone (01, "Turned down": "Returned" and "Left as it was"). Stands on the answers of `plan`.
 --     valueOf a i old          value i of the answer a; old, as it was, of a refusal
 --     columnOf a C old         the pivot column that filing gives; C, which is no column, where it gives none; old, as it was, of a refusal
+--     caseOf a k none old      the value of the answer a, whose values are the number of a case and what goes with it, where that case is k; none
+--                              where it is another; old, as it was, of a refusal
 --     lengthOf k n old         the number n of step numbers that the writer filled, where its refusal k is 0
+use mathlib.Core.Bool.{cond}
 use mathlib.Core.List.{[], _∷_}
 use Prim.Native.Nat.{ℕ, zero, suc}
+use lib.Dec.{eqb}
 use Rattle.lists.specs.Places.{at}
 use Rattle.plan.specs.Causes.{Answer, gives, refuses}
 
@@ -16,6 +20,10 @@ abbrev pub columnOf : Answer → ℕ → ℕ → ℕ
 columnOf (gives []) C old = C
 columnOf (gives (c ∷ vs)) C old = c
 columnOf (refuses k) C old = old
+
+abbrev pub caseOf : Answer → ℕ → ℕ → ℕ → ℕ
+caseOf (gives vs) k none old = cond (eqb (at vs 0) k) (at vs 1) none
+caseOf (refuses j) k none old = old
 
 abbrev pub lengthOf : ℕ → ℕ → ℕ → ℕ
 lengthOf zero n old = n

@@ -10,6 +10,7 @@ ghost use Rattle.plan.specs.Numbers.{plan, columns};
 ghost use Rattle.plan.specs.Parts.{given, checkCauses};
 ghost use Rattle.plan.specs.Rows as rows;
 ghost use Rattle.store.specs.Calls as stores;
+ghost use Rattle.store.specs.Settled as settled;
 ghost use Rattle.program.specs.Layout.{stepCount};
 ghost use Rattle.program.specs.Calls as programs;
 ghost use Rattle.listing.specs.Norm as norms;
@@ -119,6 +120,45 @@ pub extern "C" fn celery_file(
             0
         }
         store::Filed::Refused(k) => k,
+    }
+}
+
+// How an entry stands on a store: causes 1 2 3 4 5 6 7. Forced, `residue` becomes the residue and `column` C, which is no column. Free,
+// `column` becomes the column and `residue` p, which is no residue.
+#[no_mangle]
+pub extern "C" fn celery_settle(
+    p: usize,
+    s: usize,
+    n: usize,
+    m: usize,
+    t: usize,
+    radices: &[u8],
+    weights: &[u8],
+    tables: &[u8],
+    d: &[u8],
+    store: &[u8],
+    entry: usize,
+    residue: &mut u8,
+    column: &mut usize,
+) -> u8
+    ensures { λ r. ⌜ r ≡ numberOf (settled.settleAnswer (given p s n m t (now (radices .entry)) (now (weights .entry)) (now (tables .entry)) (now (d .entry))) (now (store .entry)) entry) ⌝ }
+    ensures { λ r. ⌜ now (residue .exit) ≡ specs.caseOf (settled.settleAnswer (given p s n m t (now (radices .entry)) (now (weights .entry)) (now (tables .entry)) (now (d .entry))) (now (store .entry)) entry) 0 p (now (residue .entry)) ⌝ }
+    ensures { λ r. ⌜ now (column .exit) ≡ specs.caseOf (settled.settleAnswer (given p s n m t (now (radices .entry)) (now (weights .entry)) (now (tables .entry)) (now (d .entry))) (now (store .entry)) entry) 1 (columns (plan p s n m t)) (now (column .entry)) ⌝ }
+{
+    let a = store::settle(p, s, n, m, t, radices, weights, tables, d, store, entry);
+    match a {
+        store::Settled::Forced(v) => {
+            *residue = v;
+            *column = (t + 1) * (n + m);
+            0
+        }
+        store::Settled::Free(c) => {
+            // the plan was accepted, so p fits
+            *residue = p as u8;
+            *column = c;
+            0
+        }
+        store::Settled::Refused(k) => k,
     }
 }
 

@@ -1,6 +1,7 @@
--- 01, "Cases (those with * are proved)": one collected table of facts about the definitions; and 02, C-11: facts about a plan whose digits
--- have radices of their own. Each computes.
--- X is the XOR plan; L is the plan with one link of weight 1 and table 1, 0, 0; F has p = 5; M has a month and a bit. Assumes nothing.
+-- 01, "Cases (those with * are proved)": one collected table of facts about the definitions; and 02: facts about a plan whose digits have radices
+-- of their own (C-11), and about the entries that are settled (C-12). Each computes.
+-- X is the XOR plan; L is the plan with one link of weight 1 and table 1, 0, 0; F has p = 5; M has a month and a bit; D has one digit of radix
+-- p = 5. Assumes nothing.
 use mathlib.Core.Path.{_≡_, refl}
 use mathlib.Core.List.{List, [], _∷_}
 use Prim.Native.Nat.{ℕ, _+_, _*_, _%_}
@@ -14,6 +15,10 @@ use Rattle.plan.specs.Rows.{digit, digits, link, chain, values, weighted, rowPl
 use Rattle.store.specs.declared.elimination.Filed.the-variants.{New, Implied, Refused}
 use Rattle.store.specs.Elimination.{isZeroRow, isPivot, isReduced, residual, lead, normal, inserted, outcome, after, rowStart, flat}
 use Rattle.store.specs.Calls.{answerOf, filed, coefficients}
+use Rattle.store.specs.declared.settling.Settled.the-variants as settled
+use Rattle.store.specs.declared.settling.Settled.the-variants.{Forced, Free}
+use Rattle.store.specs.Settled as settling
+use Rattle.store.specs.Settled.{standing, settleAnswer}
 use Rattle.program.specs.Steps.{tableAt, goodStep, wellFormed, assigned, stepped, registers, bootstraps, output}
 use Rattle.program.specs.Layout.{adds, linkSteps, productSteps, layout, stepCount}
 use Rattle.program.specs.Calls.{digitsFit, runAnswer}
@@ -31,6 +36,9 @@ F = given 5 2 1 0 0 (2 ∷ []) [] [] []
 -- "Customers' keys mix a month with a bit": p = 13, s = 3, no links and no products, radices 12 and 2
 abbrev pub M : Given
 M = given 13 3 2 0 0 (12 ∷ 2 ∷ []) [] [] []
+
+abbrev pub D : Given
+D = given 5 2 1 0 0 (5 ∷ []) [] [] []
 
 -- the store after some filings
 abbrev pub from : Given → List Filing → List ℕ
@@ -116,4 +124,60 @@ mixed =
       month-run = refl;
       month-run-1 = refl;
       month-run-2 = refl;
+    }
+
+pub record Settled : Type 0 where
+  -- X, empty: entry 0 has a zero row, which gives 0 whatever the coefficients; the others are free with the column that filing would answer
+  pub empty-0 : settleAnswer X (from X []) 0 ≡ settling.answerOf (Forced 0)
+  pub empty-1 : settleAnswer X (from X []) 1 ≡ settling.answerOf (Free 1)
+  pub empty-2 : settleAnswer X (from X []) 2 ≡ settling.answerOf (Free 0)
+  pub empty-3 : settleAnswer X (from X []) 3 ≡ settling.answerOf (Free 0)
+  -- with (1,1) and (2,1): these are forced with their values, entry 3 is free with column 2
+  pub two-0 : settleAnswer X (from X (ours 1 1 ∷ ours 2 1 ∷ [])) 0 ≡ settling.answerOf (Forced 0)
+  pub two-1 : settleAnswer X (from X (ours 1 1 ∷ ours 2 1 ∷ [])) 1 ≡ settling.answerOf (Forced 1)
+  pub two-2 : settleAnswer X (from X (ours 1 1 ∷ ours 2 1 ∷ [])) 2 ≡ settling.answerOf (Forced 1)
+  pub two-3 : settleAnswer X (from X (ours 1 1 ∷ ours 2 1 ∷ [])) 3 ≡ settling.answerOf (Free 2)
+  -- after (3,0) every entry is forced with its value
+  pub three-0 : settleAnswer X (from X (ours 1 1 ∷ ours 2 1 ∷ ours 3 0 ∷ [])) 0 ≡ settling.answerOf (Forced 0)
+  pub three-1 : settleAnswer X (from X (ours 1 1 ∷ ours 2 1 ∷ ours 3 0 ∷ [])) 1 ≡ settling.answerOf (Forced 1)
+  pub three-2 : settleAnswer X (from X (ours 1 1 ∷ ours 2 1 ∷ ours 3 0 ∷ [])) 2 ≡ settling.answerOf (Forced 1)
+  pub three-3 : settleAnswer X (from X (ours 1 1 ∷ ours 2 1 ∷ ours 3 0 ∷ [])) 3 ≡ settling.answerOf (Forced 0)
+  -- a forced residue may be s or more: with (1,1) under D entry 3 is forced with 3, and no value is left for it
+  pub digit-3 : settleAnswer D (from D (ours 1 1 ∷ [])) 3 ≡ settling.answerOf (Forced 3)
+  pub digit-0 : answer (call D (from D (ours 1 1 ∷ [])) 3 0) ≡ answerOf (Refused 9)
+  pub digit-1 : answer (call D (from D (ours 1 1 ∷ [])) 3 1) ≡ answerOf (Refused 9)
+  -- a month and a bit: with (1,1) entry 14 is free; after (14,1) all are forced, entry 15 with 2, entry 23 with 11 * 2 + 1 modulo 13
+  pub month-14 : settleAnswer M (from M (ours 1 1 ∷ [])) 14 ≡ settling.answerOf (Free 0)
+  pub month-15 : settleAnswer M (from M (ours 1 1 ∷ ours 14 1 ∷ [])) 15 ≡ settling.answerOf (Forced 2)
+  pub month-23 : settleAnswer M (from M (ours 1 1 ∷ ours 14 1 ∷ [])) 23 ≡ settling.answerOf (Forced 10)
+  -- 7 for an entry out of range; 6 for a store that is not in reduced form, before 7; 4 for one of another length, before 6
+  pub no-entry : settleAnswer D (from D []) 5 ≡ settling.answerOf (settled.Refused 7)
+  pub damaged : settleAnswer D (2 ∷ 0 ∷ []) 5 ≡ settling.answerOf (settled.Refused 6)
+  pub too-long : settleAnswer D (2 ∷ 0 ∷ 0 ∷ []) 5 ≡ settling.answerOf (settled.Refused 4)
+
+pub settled-entries : Settled
+unfolding storeOf storeAfter answer refusal filed callCauses storeSize rowStart product badRadix radicesFit outOfRange oddPrime isPrime every lengthsFit valuesFit isZeroRow isPivot isReduced residual lead normal inserted outcome after flat tab sum row rowPlace weighted values chain digit inverse standing
+settled-entries =
+    record {
+      empty-0 = refl;
+      empty-1 = refl;
+      empty-2 = refl;
+      empty-3 = refl;
+      two-0 = refl;
+      two-1 = refl;
+      two-2 = refl;
+      two-3 = refl;
+      three-0 = refl;
+      three-1 = refl;
+      three-2 = refl;
+      three-3 = refl;
+      digit-3 = refl;
+      digit-0 = refl;
+      digit-1 = refl;
+      month-14 = refl;
+      month-15 = refl;
+      month-23 = refl;
+      no-entry = refl;
+      damaged = refl;
+      too-long = refl;
     }

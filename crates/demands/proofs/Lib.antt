@@ -3,4 +3,5 @@ pub mod Turns
 pub mod Lists
 pub mod Programs
 pub mod Demand3
+pub mod Settlement
 pub mod Cases

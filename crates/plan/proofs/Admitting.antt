@@ -7,6 +7,7 @@
 --                                                   own causes are left
 --     turned-away                                   a call that is not admitted: the refusal is the call's
 --     Unrefused, unrefused                          a call that is not refused meets none of its causes
+--     other-causes                                  another call on the same plan and parts is then left its own causes alone
 --     accepted-call                                 a call that is lent an accepted plan, and its own parts in their lengths
 -- Assumes nothing.
 use mathlib.Core.Path.{_≡_, refl, sym, ap, ap₂, subst, _∙_}
@@ -106,6 +107,12 @@ module _ (G : Given) (own : Own) where
       let fit = radices-of (G .numbers .p) (G .numbers .s) (G .numbers .n) (G .numbers .m) (G .numbers .t) (G .radices) (none .0) in
       let lent = lent-of G (ownFits own (G .numbers)) within (fit .0) (fit .1) (none .1) in
       record { within = within; lent = lent .0; own-fits = lent .1; rest-none = none .2 }
+
+  -- then another call on the same plan and parts is left its own causes alone
+  pub other-causes : (rest others : Given → List (ℕ × Bool)) → first (callCauses G own rest) ≡ 0 → first (callCauses G own others) ≡ first (others G)
+  other-causes rest others e =
+      let none = none-of (first numbered) (first parts) (first (rest G)) (sym (split rest) ∙ e) in
+      split others ∙ only-last (first numbered) (first parts) (first (others G)) (none .0) (none .1)
 
   pub turned-away : {k : ℕ} → admitted G own ≡ answerOf (Refused k) → (rest : Given → List (ℕ × Bool)) → (k ≡ first (callCauses G own rest)) × (0 < k)
   unfolding admitted answerOf

@@ -22,9 +22,11 @@ pub mod Pasting
 pub mod OneReading
 pub mod Multiples
 pub mod Deferring
+pub mod Freeing
 pub mod Clearing
 pub mod Outcomes
 pub mod EntryEquations
 pub mod StoreCalls
 pub mod Readiness
 pub mod OneReducedForm
+pub mod Standings

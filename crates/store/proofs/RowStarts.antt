@@ -1,13 +1,14 @@
 -- Where the rows of a store stand. Nothing else knows how long a row is kept or where it starts: what changes the layout changes
 -- `storeSize` of `plan`, `rowStart`, `cells` and `flat` of specs/, these laws, and `Bytes`.
 --     start-zero      row 0 starts at 0
+--     start-is        where row q starts
 --     start-next      a row starts where the row before it ends
 --     rows-apart      a row ends before the rows behind it start
 --     start-last      the rows fill the store
 --     row-end         a row ends within the store
 -- Assumes nothing.
 use mathlib.Core.Path.{_≡_, refl}
-use Prim.Native.Nat.{ℕ, _+_, _≤_, _<_}
+use Prim.Native.Nat.{ℕ, _+_, _*_, _≤_, _<_}
 use native.Mathlib.Nat.{zero-mul, mul-le-mul-right}
 use native.Mathlib.Omega.{arith}
 use Rattle.plan.specs.Parts.{storeSize}
@@ -16,6 +17,10 @@ use Rattle.store.specs.Elimination.{rowStart}
 pub start-zero : (C : ℕ) → rowStart C 0 ≡ 0
 unfolding rowStart
 start-zero C = zero-mul (C + 1)
+
+pub start-is : (C q : ℕ) → rowStart C q ≡ q * (C + 1)
+unfolding rowStart
+start-is C q = refl
 
 pub start-next : (C q : ℕ) → rowStart C (q + 1) ≡ rowStart C q + (C + 1)
 unfolding rowStart

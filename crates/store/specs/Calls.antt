@@ -1,6 +1,7 @@
 -- The calls on a store: what each answers and leaves, and the causes it can meet, in number order (01, "The store" and "Turned down"; 02,
 -- C-11). G is a plan as lent, P its numbers. Stands on `Elimination`, and on the rows and causes of `plan`.
---     equation G i v             entry i with value v as an equation: row i, then v
+--     equationOf G i v           entry i with value v as an equation: row i, then v
+--     equation G i v             the same by place
 --     emptyStore P               "An empty store is all zeros"
 --     outcomeOf G store i v      what filing entry i with value v comes to
 --     storeCause P store         6, "store not in reduced form"
@@ -31,8 +32,11 @@ use Rattle.store.specs.Filings.{isContradiction}
 use Rattle.store.specs.declared.elimination.Filed.{Filed}
 use Rattle.store.specs.declared.elimination.Filed.the-variants.{New, Implied, Refused}
 
+abbrev pub equationOf : Given → ℕ → ℕ → List ℕ
+equationOf G i v = row G i ++ (v ∷ [])
+
 abbrev pub equation : Given → ℕ → ℕ → ℕ → ℕ
-equation G i v = at (row G i ++ (v ∷ []))
+equation G i v = at (equationOf G i v)
 
 abbrev pub emptyStore : Plan → List ℕ
 emptyStore P = replicate (storeSize (columns P)) 0

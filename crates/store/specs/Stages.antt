@@ -8,10 +8,12 @@
 --     Poured acc short left rows acc′ short′ r      acc and short with room for left rows, and what is left of them: as they were, or short
 --                            poured into acc where there was no room; r is how many rows there is room for then
 --     cleared p S N c r j    column c cleared by N from the rows above row c alone
+--     NextFree C S from r    r is the first column from `from` on that has no pivot, or C where there is none
 use mathlib.Core.Path.{_≡_}
 use mathlib.Core.Bool.{cond}
+use mathlib.Core.Logic.{_≢_}
 use mathlib.Core.List.{List}
-use Prim.Native.Nat.{ℕ, _+_, _-_, _*_, _%_, _≤_}
+use Prim.Native.Nat.{ℕ, _+_, _-_, _*_, _%_, _≤_, _<_}
 use lib.Dec.{eqb, ltb}
 use lib.ListN.{length}
 use Rattle.lists.specs.Places.{sum, tab}
@@ -44,3 +46,9 @@ Poured acc short left rows acc′ short′ r =
 
 unfoldable pub cleared : ℕ → (ℕ → ℕ → ℕ) → (ℕ → ℕ) → ℕ → ℕ → ℕ → ℕ
 cleared p S N c r j = cond (ltb r c) ((S r j + (p - S r c) * N j) % p) (S r j)
+
+pub record NextFree (C : ℕ) (S : ℕ → ℕ → ℕ) (from r : ℕ) : Type 0 where
+  pub low : from ≤ r
+  pub high : r ≤ C
+  pub passed : (j : ℕ) → from ≤ j → j < r → S j j ≢ 0
+  pub stopped : r < C → S r r ≡ 0

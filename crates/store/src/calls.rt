@@ -5,10 +5,13 @@ ghost use Rattle.plan.specs.Causes.{first, result};
 ghost use Rattle.plan.specs.Numbers.{plan, columns};
 ghost use Rattle.plan.specs.Parts.{given};
 ghost use Rattle.store.specs.Calls as specs;
+ghost use Rattle.store.specs.Settled as settled;
 use crate::elimination::Filed;
 use crate::elimination::file_entry;
 use crate::elimination::read_off;
 use crate::reduced::is_reduced;
+use crate::settling::Settled;
+use crate::settling::settle_entry;
 use plan::Checked;
 use plan::Own;
 use plan::admit;
@@ -92,6 +95,47 @@ pub fn file(
                 return Filed::Refused(8);
             }
             file_entry(plan, radices, weights, tables, d, store, entry, value as u8)
+        }
+    }
+}
+
+// How an entry stands on a store, filed or not: causes 1 2 3 4 5 6 7.
+pub fn settle(
+    p: usize,
+    s: usize,
+    n: usize,
+    m: usize,
+    t: usize,
+    radices: &[u8],
+    weights: &[u8],
+    tables: &[u8],
+    d: &[u8],
+    store: &[u8],
+    entry: usize,
+) -> Settled
+    ensures { λ r. ⌜ settled.answerOf r ≡ settled.settleAnswer (given p s n m t (now (radices .entry)) (now (weights .entry)) (now (tables .entry)) (now (d .entry))) (now (store .entry)) entry ⌝ }
+{
+    match admit(
+        p,
+        s,
+        n,
+        m,
+        t,
+        radices,
+        weights,
+        tables,
+        d,
+        Own::Store(store.len()),
+    ) {
+        Checked::Refused(k) => Settled::Refused(k),
+        Checked::Accepted(plan) => {
+            if !is_reduced(store, plan.columns(), plan.p) {
+                return Settled::Refused(6);
+            }
+            if plan.entries(radices) <= entry {
+                return Settled::Refused(7);
+            }
+            settle_entry(plan, radices, weights, tables, d, store, entry)
         }
     }
 }

@@ -114,7 +114,7 @@ fn defer(acc: &mut [u32], store: &[u8], e: &[u8], c: usize, p: u8)
 }
 
 // The residual of e, into out: all sums first, and one reduction.
-fn residual(out: &mut [u8], store: &[u8], e: &[u8], c: usize, p: u8)
+pub fn residual(out: &mut [u8], store: &[u8], e: &[u8], c: usize, p: u8)
     requires { ⌜ Ready p c (now store) ⌝ }
     requires { ⌜ Line p c (now e) ⌝ }
     requires { ⌜ length (now out) ≡ c + 1 ⌝ }
@@ -127,7 +127,7 @@ fn residual(out: &mut [u8], store: &[u8], e: &[u8], c: usize, p: u8)
 }
 
 // The first place at which xs is not 0, or its length where there is none.
-fn lead(xs: &[u8]) -> usize
+pub fn lead(xs: &[u8]) -> usize
     ensures { λ r. ⌜ r ≡ specs.lead (at (now (xs .entry))) (length (now (xs .entry))) ⌝ }
 {
     let mut j: usize = 0;
@@ -216,7 +216,28 @@ pub fn file_equation(store: &mut [u8], e: &[u8], c: usize, p: u8) -> Filed
     Filed::Implied
 }
 
-// Files entry `entry` with `value`: its row, then the value.
+// Entry `entry` with `value` as an equation, into e: its row, then the value.
+pub fn entry_equation(
+    plan: Plan,
+    radices: &[u8],
+    weights: &[u8],
+    tables: &[u8],
+    d: &[u8],
+    entry: usize,
+    value: u8,
+    e: &mut [u8],
+)
+    requires { ⌜ Within plan ⌝ }
+    requires { ⌜ Lent (lend plan (now radices) (now weights) (now tables) (now d)) ⌝ }
+    requires { ⌜ length (now e) ≡ columns plan + 1 ⌝ }
+    ensures { λ _. ⌜ now (e .exit) ≡ calls.equationOf (lend plan (now (radices .entry)) (now (weights .entry)) (now (tables .entry)) (now (d .entry))) entry value ⌝ }
+{
+    let c = plan.columns();
+    plan::fill_row(plan, radices, weights, tables, d, entry, &mut e[..c]);
+    e[c] = value;
+}
+
+// Files entry `entry` with `value`.
 pub fn file_entry(
     plan: Plan,
     radices: &[u8],
@@ -234,12 +255,20 @@ pub fn file_entry(
     ensures { λ r. ⌜ calls.answerOf r ≡ calls.answered (calls.outcomeOf (lend plan (now (radices .entry)) (now (weights .entry)) (now (tables .entry)) (now (d .entry))) (now (store .entry)) entry value) ⌝ }
     ensures { λ r. ⌜ now (store .exit) ≡ calls.filed (lend plan (now (radices .entry)) (now (weights .entry)) (now (tables .entry)) (now (d .entry))) (now (store .entry)) entry value ⌝ }
 {
-    let mut row = [0u8; Plan::COLUMNS + 1];
+    let mut e = [0u8; Plan::COLUMNS + 1];
     let c = plan.columns();
-    plan::fill_row(plan, radices, weights, tables, d, entry, &mut row[..c]);
-    row[c] = value;
     let width = c + 1;
-    file_equation(store, &row[..width], c, plan.p)
+    entry_equation(
+        plan,
+        radices,
+        weights,
+        tables,
+        d,
+        entry,
+        value,
+        &mut e[..width],
+    );
+    file_equation(store, &e[..width], c, plan.p)
 }
 
 // The coefficients read off: the right-hand side of each row.

@@ -1,15 +1,18 @@
-// The store: reduced form, filing, reading off.
+// The store: reduced form, filing, which outputs are settled, reading off.
 //
-// A host or a program calls `test`, `file` and `coefficients`, which take any numbers and bytes. `text` calls `read_off` too, on a store
+// A host or a program calls `test`, `file`, `settle` and `coefficients`, which take any numbers and bytes. `text` calls `read_off` too, on a store
 // that it knows to be in reduced form. How long a store is, is asked of `store_size`. Stands on `plan` and `field`. Renders 01, "The store"
-// and causes 6 to 9; 02, C-11; the theory of elimination is in proofs/.
+// and causes 6 to 9; 02, C-11 and C-12; the theory of elimination is in proofs/.
 mod calls;
 mod elimination;
 mod reduced;
+mod settling;
 
 pub use calls::coefficients;
 pub use calls::file;
+pub use calls::settle;
 pub use calls::test;
 pub use elimination::Filed;
 pub use elimination::read_off;
 pub use plan::store_size;
+pub use settling::Settled;
