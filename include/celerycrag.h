@@ -49,9 +49,9 @@
  * pointer too: an empty part is NULL and 0 in C, data() and size() of an empty
  * std::vector in C++. Nothing is read or written through it.
  *
- * A single number that a call writes (column, written, y, bootstraps, norm) is
- * lent by a pointer that is never null, also where the call is refused. The
- * number there must be aligned for its type and initialised.
+ * A single number that a call writes (column, residue, written, y, bootstraps,
+ * norm) is lent by a pointer that is never null, also where the call is refused.
+ * The number there must be aligned for its type and initialised.
  *
  * What a call writes must overlap nothing else that it is lent, and nothing
  * else may write to what it is lent until it returns. Parts that are only read
@@ -196,6 +196,30 @@ uint8_t celery_file(CELERY_PLAN, uint8_t *store, size_t store_len,
  */
 uint8_t celery_coefficients(CELERY_PLAN, const uint8_t *store, size_t store_len,
                             uint8_t *beta, size_t beta_len);
+
+/*
+ * Tells whether an entry is settled by what the store holds, be it kept or not.
+ *
+ * Forced: all beta that reproduce the store give the entry one residue. Filing
+ * it with that value finds it implied, and every other value is refused with 9.
+ * Of a kept entry it is the value. The residue may be s or more; then every
+ * value is refused. An entry whose row is all zero is forced to 0 by any store.
+ *
+ * Free: they do not. Filing the entry finds it new, whatever the value, with
+ * its pivot in the column told here: the first in which its row is not zero
+ * once the rows of the store have cleared it.
+ *
+ * Lent:    store, C (C + 1) bytes; entry, any number; residue; column.
+ * Causes:  1 2 3 4 5, 6, 7.
+ * Writes:  *residue and *column, both. Forced: the residue, and C, which is no
+ *          column. Free: p, which is no residue, and the column.
+ * Cost:    celery_test and celery_row. Then the columns without a pivot are
+ *          looked at from the left, for about 4 C multiplications at most; that
+ *          is all where the entry is free early. Else at most about C^2 / 2
+ *          more, as celery_file takes to compare an entry with the store.
+ */
+uint8_t celery_settle(CELERY_PLAN, const uint8_t *store, size_t store_len,
+                      size_t entry, uint8_t *residue, size_t *column);
 
 /*
  * Answers what celery_write answers on the same arguments, and writes nothing.

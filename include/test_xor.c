@@ -1,9 +1,11 @@
 /*
  * The exclusive or of two bits, from the plan to the program, through the C
- * interface: files the table, reads the coefficients off, writes the program,
- * runs it on all four inputs and compares. The same for the days of a month
- * under two radices, 12 and 2. Then every part that can be empty is lent as a
- * null pointer. It is C and C++. Prints "ok", or the line at fault.
+ * interface: files the table, asks meanwhile which entries are settled, reads
+ * the coefficients off, writes the program, runs it on all four inputs and
+ * compares. The same for the days of a month under two radices, 12 and 2. Then
+ * entries are settled to residues of s and more, and every part that can be
+ * empty is lent as a null pointer. It is C and C++. Prints "ok", or the line at
+ * fault.
  */
 #include "celerycrag.h"
 
@@ -64,6 +66,17 @@ static int file(uint8_t *store, size_t entry, size_t value, int answer, size_t c
     size_t found = 999;
     int given = celery_file(XOR, store, STORE, entry, value, &found);
     return given == answer && found == (answer == CELERY_ACCEPTED ? column : 999);
+}
+
+/* Free tells p and the column, forced the residue and C; a refused call leaves both numbers as they were. */
+static int settle(const uint8_t *store, size_t entry, int answer, uint8_t residue, size_t column)
+{
+    uint8_t told = 255;
+    size_t found = 999;
+    int given = celery_settle(XOR, store, STORE, entry, &told, &found);
+    if (answer != CELERY_ACCEPTED)
+        residue = 255, column = 999;
+    return given == answer && told == residue && found == column;
 }
 
 /*
@@ -142,6 +155,10 @@ static int days_of_a_month(void)
         new_rows += column < DAYS_C;
     }
     CHECK(new_rows == DAYS_C);
+    for (entry = 0; entry < ENTRIES; entry++) {
+        CHECK(celery_settle(DAYS, store, sizeof store, entry, &y, &column) == CELERY_ACCEPTED);
+        CHECK(y == beyond_28(entry / 2, entry % 2) && column == DAYS_C);
+    }
     CHECK(celery_coefficients(DAYS, store, sizeof store, beta, sizeof beta) == CELERY_ACCEPTED);
     CHECK(memcmp(beta, off, sizeof beta) == 0);
     CHECK(celery_write(DAYS, beta, sizeof beta, steps, DAYS_STEPS, &written) == CELERY_ACCEPTED);
@@ -163,6 +180,7 @@ static int days_of_a_month(void)
     CHECK(celery_file(DAYS, store, sizeof store, ENTRIES, 0, &column) == CELERY_NO_ENTRY);
     CHECK(celery_file(DAYS, store, sizeof store, 0, DAYS_S, &column) == CELERY_NO_VALUE);
     CHECK(celery_file(DAYS, store, sizeof store, 3, 0, &column) == CELERY_CONTRADICTION);
+    CHECK(celery_settle(DAYS, store, sizeof store, ENTRIES, &y, &column) == CELERY_NO_ENTRY);
     CHECK(celery_run(DAYS, steps, written, late_month, DAYS_N, &y, &bootstraps) == CELERY_NO_DIGIT);
     CHECK(celery_run(DAYS, steps, written, late_bit, DAYS_N, &y, &bootstraps) == CELERY_NO_DIGIT);
     CHECK(memcmp(kept, store, sizeof store) == 0);
@@ -172,9 +190,40 @@ static int days_of_a_month(void)
         CHECK(celery_check(DAYS_IN(wrong[i].radices, wrong[i].count)) == wrong[i].answer);
         CHECK(celery_file(DAYS_IN(wrong[i].radices, wrong[i].count), store, sizeof store, 3, 1, &column) ==
               wrong[i].answer);
+        CHECK(celery_settle(DAYS_IN(wrong[i].radices, wrong[i].count), store, sizeof store, 3, &y, &column) ==
+              wrong[i].answer);
     }
     CHECK(memcmp(kept, store, sizeof store) == 0);
-    CHECK(column == 999);
+    CHECK(column == 999 && y == 99);
+    return 0;
+}
+
+/* One digit of radix 5 with p = 5 and s = 2. */
+static const uint8_t five[CELERY_RADICES_LEN(1)] = {5};
+#define DIGIT 5, 2, 1, 0, 0, five, sizeof five, NONE, NONE, NONE
+
+/*
+ * Once entry 1 has the value 1, beta is 1, and every entry is forced to its own
+ * number, also to 2 and more, which are no values. Answers 0, or prints the line
+ * at fault.
+ */
+static int settled_beyond_s(void)
+{
+    uint8_t store[CELERY_STORE_LEN(1, 0, 0)] = {0}, residue = 255;
+    size_t column = 999, entry;
+
+    CHECK(celery_settle(DIGIT, store, sizeof store, 3, &residue, &column) == CELERY_ACCEPTED);
+    CHECK(residue == 5 && column == 0);
+    CHECK(celery_file(DIGIT, store, sizeof store, 1, 1, &column) == CELERY_ACCEPTED);
+    for (entry = 0; entry < 5; entry++) {
+        CHECK(celery_settle(DIGIT, store, sizeof store, entry, &residue, &column) == CELERY_ACCEPTED);
+        CHECK(residue == entry && column == 1);
+    }
+    CHECK(celery_file(DIGIT, store, sizeof store, 3, 0, &column) == CELERY_CONTRADICTION);
+    CHECK(celery_file(DIGIT, store, sizeof store, 3, 1, &column) == CELERY_CONTRADICTION);
+    CHECK(celery_file(DIGIT, store, sizeof store, 3, 3, &column) == CELERY_NO_VALUE);
+    CHECK(celery_settle(DIGIT, store, sizeof store, 5, &residue, &column) == CELERY_NO_ENTRY);
+    CHECK(residue == 4 && column == 1);
     return 0;
 }
 
@@ -188,7 +237,7 @@ static int empty_parts(void)
 {
     enum { L = CELERY_COLUMNS(N, 0, 0), LAST = CELERY_STEPS_LEN(N, 0, 0) };
     uint8_t store[CELERY_STORE_LEN(N, 0, 0)] = {0}, row[L] = {0}, beta[L] = {0};
-    uint8_t digits[N] = {1, 1}, y = 99;
+    uint8_t digits[N] = {1, 1}, y = 99, residue = 99;
     uint16_t steps[LAST] = {0};
     size_t column = 999, written = 999, bootstraps = 999, norm = 999;
 
@@ -204,19 +253,24 @@ static int empty_parts(void)
     CHECK(celery_file(BARE, NULL, 0, 3, 1, &column) == CELERY_LENGTH);
     CHECK(celery_coefficients(BARE, NULL, 0, beta, L) == CELERY_LENGTH);
     CHECK(celery_coefficients(BARE, store, sizeof store, NULL, 0) == CELERY_LENGTH);
+    CHECK(celery_settle(BARE, NULL, 0, 3, &residue, &column) == CELERY_LENGTH);
     CHECK(celery_check_writing(BARE, NULL, 0, steps, LAST) == CELERY_LENGTH);
     CHECK(celery_check_writing(BARE, beta, L, NULL, 0) == CELERY_NO_ROOM);
     CHECK(celery_write(BARE, NULL, 0, steps, LAST, &written) == CELERY_LENGTH);
     CHECK(celery_write(BARE, beta, L, NULL, 0, &written) == CELERY_NO_ROOM);
     CHECK(celery_run(BARE, NULL, 0, NULL, 0, &y, &bootstraps) == CELERY_LENGTH);
     CHECK(celery_worst_norm(BARE, NULL, 0, &norm) == CELERY_LENGTH);
-    CHECK(column == 999 && written == 999 && y == 99 && bootstraps == 999 && norm == 999);
+    CHECK(column == 999 && written == 999 && y == 99 && bootstraps == 999 && norm == 999 && residue == 99);
 
     /* Entry 3 has the digits 1 1, and its value 1 makes beta 1 0. */
     CHECK(celery_row(BARE, 3, row, L) == CELERY_ACCEPTED);
     CHECK(row[0] == 1 && row[1] == 1);
     CHECK(celery_file(BARE, store, sizeof store, 3, 1, &column) == CELERY_ACCEPTED);
     CHECK(column == 0);
+    CHECK(celery_settle(BARE, store, sizeof store, 3, &residue, &column) == CELERY_ACCEPTED);
+    CHECK(residue == 1 && column == L);
+    CHECK(celery_settle(BARE, store, sizeof store, 2, &residue, &column) == CELERY_ACCEPTED);
+    CHECK(residue == P && column == 1);
     CHECK(celery_test(BARE, store, sizeof store) == CELERY_ACCEPTED);
     CHECK(celery_coefficients(BARE, store, sizeof store, beta, L) == CELERY_ACCEPTED);
     CHECK(beta[0] == 1 && beta[1] == 0);
@@ -246,11 +300,21 @@ int main(void)
     CHECK(celery_check(P, S, N, M, T, BITS, NONE, NONE, d, 1) == CELERY_LENGTH);
     CHECK(celery_check(P, S, N, M, T, NONE, NONE, NONE, d, sizeof d) == CELERY_LENGTH);
 
+    /* In an empty store only entry 0 is settled, whose row is all zero. */
+    CHECK(settle(store, 0, CELERY_ACCEPTED, 0, C));
+    CHECK(settle(store, 1, CELERY_ACCEPTED, P, 1));
+    CHECK(settle(store, 2, CELERY_ACCEPTED, P, 0));
+    CHECK(settle(store, 3, CELERY_ACCEPTED, P, 0));
     CHECK(file(store, 0, 0, CELERY_ACCEPTED, C));
     CHECK(file(store, 1, 1, CELERY_ACCEPTED, 1));
     CHECK(file(store, 2, 1, CELERY_ACCEPTED, 0));
+    /* What is free is filed in the column told, and settled from then on. */
+    CHECK(settle(store, 3, CELERY_ACCEPTED, P, 2));
     CHECK(file(store, 3, 0, CELERY_ACCEPTED, 2));
+    for (entry = 0; entry < 4; entry++)
+        CHECK(settle(store, entry, CELERY_ACCEPTED, (uint8_t)(entry / 2 ^ entry % 2), C));
     memcpy(kept, store, sizeof store);
+    CHECK(settle(store, 4, CELERY_NO_ENTRY, 0, 0));
     CHECK(file(store, 3, 1, CELERY_CONTRADICTION, 0));
     CHECK(file(store, 4, 0, CELERY_NO_ENTRY, 0));
     CHECK(file(store, 0, 2, CELERY_NO_VALUE, 0));
@@ -285,8 +349,10 @@ int main(void)
     /* The store of the start is not in reduced form once a byte is damaged. */
     store[0] = 2;
     CHECK(celery_test(XOR, store, sizeof store) == CELERY_DAMAGED);
+    CHECK(settle(store, 0, CELERY_DAMAGED, 0, 0));
+    CHECK(settle(store, 4, CELERY_DAMAGED, 0, 0)); /* 6 before 7 */
 
-    if (days_of_a_month() != 0 || empty_parts() != 0)
+    if (days_of_a_month() != 0 || settled_beyond_s() != 0 || empty_parts() != 0)
         return 1;
 
     puts("ok");

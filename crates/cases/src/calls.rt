@@ -1,4 +1,4 @@
-// Each call with its answer, and after it every byte of a part that it was lent to write. A call k is one of 10 to 20, and `held` is as main.rt says.
+// Each call with its answer, and after it every byte of a part that it was lent to write. A call k is one of 10 to 21, and `held` is as main.rt says.
 use crate::parts::front;
 use crate::parts::lent;
 use crate::parts::lent_steps;
@@ -163,6 +163,36 @@ fn file(
     bytes(b"= store", store);
 }
 
+// How an entry stands.
+fn settle(
+    held: &[usize; 17],
+    radices: &[u8],
+    weights: &[u8],
+    tables: &[u8],
+    d: &[u8],
+    store: &[u8],
+    entry: usize,
+) {
+    let answer = store::settle(
+        held[0],
+        held[1],
+        held[2],
+        held[3],
+        held[4],
+        radices,
+        weights,
+        tables,
+        d,
+        store,
+        entry,
+    );
+    match answer {
+        store::Settled::Forced(residue) => say(b"forced", residue as usize),
+        store::Settled::Free(column) => say(b"free", column),
+        store::Settled::Refused(k) => say(b"refused", k as usize),
+    }
+}
+
 // The length of the part that the writer hands back; with this call the loan of the slice ends.
 fn handed(
     held: &[usize; 17],
@@ -200,7 +230,7 @@ fn on_program(
     beta: &[u8],
     steps: &mut [u16],
 ) {
-    if k == 15 {
+    if k == 16 {
         let answer = program::check_writing(
             held[0],
             held[1],
@@ -217,7 +247,7 @@ fn on_program(
         say(b"number", answer as usize);
         return;
     }
-    if k == 16 {
+    if k == 17 {
         let answer = program::write_into(
             held[0],
             held[1],
@@ -317,7 +347,7 @@ pub fn print_text(held: &mut [usize; 17], parts: &[[u8; 2048]; 6], room: usize) 
     held[8] = 0;
 }
 
-// The calls 10 to 14, on a plan and a store.
+// The calls 10 to 15, on a plan and a store.
 pub fn with_store(
     k: usize,
     args: &[usize; 2048],
@@ -352,6 +382,15 @@ pub fn with_store(
             args[0],
             args[1],
         ),
+        15 => settle(
+            held,
+            radices,
+            weights,
+            tables,
+            d,
+            front(store, held[15]),
+            args[0],
+        ),
         _ => on_store(
             k,
             held,
@@ -365,7 +404,7 @@ pub fn with_store(
     }
 }
 
-// The calls 15 to 19, about a program.
+// The calls 16 to 20, about a program.
 pub fn with_program(
     k: usize,
     held: &[usize; 17],
@@ -378,7 +417,7 @@ pub fn with_program(
     let tables = front(&parts[3], held[11]);
     let d = front(&parts[4], held[12]);
     match k {
-        18 => run(
+        19 => run(
             held,
             radices,
             weights,
@@ -387,7 +426,7 @@ pub fn with_program(
             front(&parts[5], held[13]),
             lent_steps(steps, held[5]),
         ),
-        19 => norm(held, radices, weights, tables, d, front(beta, held[16])),
+        20 => norm(held, radices, weights, tables, d, front(beta, held[16])),
         _ => on_program(
             k,
             held,

@@ -63,24 +63,24 @@ fn set(
     }
 }
 
-// Prints a line, and reads a command: its numbers into `args`, how many they are into held[6]. Answers which it is, 21 for a line of a text,
-// and 22 for a name or a malformed line.
+// Prints a line, and reads a command: its numbers into `args`, how many they are into held[6]. Answers which it is, 22 for a line of a text,
+// and 23 for a name or a malformed line.
 fn read(line: &[u8], args: &mut [usize; 2048], held: &mut [usize; 17]) -> usize {
     io::write_all(1, line);
     match byte(line, 0) {
-        b'#' | b'\n' => return 22,
-        b'>' => return 21,
+        b'#' | b'\n' => return 23,
+        b'>' => return 22,
         _ => {}
     }
     let k = find(
         b"plan radices weights tables d digits row store beta steps plan::check plan::row store::test store::file store::coefficients \
-          program::check_writing program::write_into program::write program::run listing::worst_norm text::print_text ",
+          store::settle program::check_writing program::write_into program::write program::run listing::worst_norm text::print_text ",
         line,
     );
     let count = numbers(line, args);
     if wanted(k, count) != count {
         io::write_all(1, b"= malformed\n");
-        return 22;
+        return 23;
     }
     held[6] = count;
     k
@@ -100,10 +100,10 @@ fn obey(
     let k = read(line, args, held);
     match k {
         0..=9 => set(k, args, held, parts, row, store, beta, steps),
-        10..=14 => with_store(k, args, held, parts, row, store, beta),
-        15..=19 => with_program(k, held, parts, beta, steps),
-        20 => print_text(held, parts, args[0]),
-        21 => held[8] = append(&mut parts[0], held[8], line),
+        10..=15 => with_store(k, args, held, parts, row, store, beta),
+        16..=20 => with_program(k, held, parts, beta, steps),
+        21 => print_text(held, parts, args[0]),
+        22 => held[8] = append(&mut parts[0], held[8], line),
         _ => {}
     }
 }

@@ -148,13 +148,15 @@ pub extern "C" fn celery_settle(
     let a = store::settle(p, s, n, m, t, radices, weights, tables, d, store, entry);
     match a {
         store::Settled::Forced(v) => {
+            let no_column = (t + 1) * (n + m);
             *residue = v;
-            *column = (t + 1) * (n + m);
+            *column = no_column;
             0
         }
         store::Settled::Free(c) => {
             // the plan was accepted, so p fits
-            *residue = p as u8;
+            let no_residue = p as u8;
+            *residue = no_residue;
             *column = c;
             0
         }

@@ -39,6 +39,13 @@ calls! {
         column: *mut usize
     );
     celery_coefficients(store: *const u8, store_len: usize, beta: *mut u8, beta_len: usize);
+    celery_settle(
+        store: *const u8,
+        store_len: usize,
+        entry: usize,
+        residue: *mut u8,
+        column: *mut usize
+    );
     celery_check_writing(beta: *const u8, beta_len: usize, steps: *const u16, steps_len: usize);
     celery_write(
         beta: *const u8,

@@ -85,6 +85,38 @@
 //!
 //! [`Plan::with_radix`] takes one radix, s, for all digits.
 //!
+//! # Which outputs are settled
+//!
+//! While a table is typed in, the entries kept so far may already decide the
+//! output of another. [`Store::settled`] tells: an entry is forced where all
+//! coefficients that reproduce the store agree on it, and free where they do
+//! not.
+//!
+//! ```
+//! use celerycrag::{Filed, Plan, Refusal, Settled, Shape, Store};
+//!
+//! # fn main() -> Result<(), Refusal> {
+//! let shape = Shape { p: 3, s: 2, n: 2, m: 0, t: 1 };
+//! let plan = Plan::new(shape, vec![2, 2], vec![], vec![], vec![1, 1])?;
+//! let mut store = Store::new(&plan);
+//! store.file(1, 1)?;
+//! store.file(2, 1)?;
+//! assert_eq!(store.settled(0)?, Settled::Forced { residue: 0 });
+//! assert_eq!(store.settled(3)?, Settled::Free { column: 2 });
+//!
+//! // Entry 0 can have no other value, and entry 3 any.
+//! assert_eq!(store.file(0, 1), Err(Refusal::CONTRADICTION));
+//! assert_eq!(store.file(3, 0)?, Filed::New { column: 2 });
+//! for (entry, residue) in [0, 1, 1, 0].into_iter().enumerate() {
+//!     assert_eq!(store.settled(entry)?, Settled::Forced { residue });
+//! }
+//! # Ok(())
+//! # }
+//! ```
+//!
+//! A forced residue may be s or more. Then the entry has an output that is no
+//! value, and none can be filed for it.
+//!
 //! # Refusals
 //!
 //! A call that is turned down gives a [`Refusal`] with a number and a sentence
@@ -109,4 +141,4 @@ mod store;
 pub use plan::{Plan, Shape};
 pub use program::{Program, Ran, Step};
 pub use refusal::Refusal;
-pub use store::{Filed, Store};
+pub use store::{Filed, Settled, Store};

@@ -106,6 +106,23 @@ pub fn coefficients(plan: Lent, store: &[u8], beta: &mut [u8]) -> u8 {
     )
 }
 
+/// Tells whether an entry is settled. Where all coefficients that reproduce the
+/// store give it one residue, `residue` becomes that and `column` becomes C,
+/// which is no column. Where they do not, `residue` becomes p, which is no
+/// residue, and `column` the one that filing the entry would give a pivot.
+/// Causes 1 2 3 4 5 6 7.
+pub fn settle(plan: Lent, store: &[u8], entry: usize, residue: &mut u8, column: &mut usize) -> u8 {
+    call!(
+        celery_settle,
+        plan,
+        store.as_ptr(),
+        store.len(),
+        entry,
+        residue,
+        column
+    )
+}
+
 /// Answers what [`write()`] answers on the same arguments, and writes nothing.
 /// Causes 1 2 3 4 5 10.
 pub fn check_writing(plan: Lent, beta: &[u8], steps: &[u16]) -> u8 {

@@ -14,6 +14,32 @@ pub enum Filed {
     Implied,
 }
 
+/// What the store says of an entry, kept or not.
+#[derive(Clone, Copy, Debug, PartialEq, Eq, Hash)]
+pub enum Settled {
+    /// The entry is settled: all coefficients that reproduce the store give it
+    /// this residue.
+    ///
+    /// Filing the entry with this residue as its value is answered
+    /// [`Filed::Implied`], and every other value is a contradiction. Of a kept
+    /// entry it is the value. It is below p, and may be s or more: then no
+    /// value can be filed for the entry.
+    Forced {
+        /// The residue, below p.
+        residue: u8,
+    },
+    /// The entry is not settled: the coefficients that reproduce the store do
+    /// not agree on it.
+    ///
+    /// Filing the entry with any value below s is answered [`Filed::New`] with
+    /// this column.
+    Free {
+        /// The first column in which the entry's row is not zero once the rows
+        /// of the store have cleared it.
+        column: usize,
+    },
+}
+
 /// The store of a plan: C rows of C coefficients and a right-hand side.
 #[derive(Clone, Debug, PartialEq, Eq, Hash)]
 pub struct Store {
@@ -86,5 +112,27 @@ impl Store {
         let number = raw::coefficients(self.plan.lent(), &self.bytes, &mut beta);
         Refusal::unless_0(number)?;
         Ok(beta)
+    }
+
+    /// Whether the output of an entry is settled by the entries kept so far, and
+    /// to which residue. The store stays as it is.
+    ///
+    /// It costs what testing the store and making the entry's row cost, then
+    /// little where the entry is free in an early column, and else at most about
+    /// what an implied filing does.
+    ///
+    /// # Errors
+    /// Cause 7. Cause 6 only where memory was damaged meanwhile, as with
+    /// [`Store::coefficients`].
+    pub fn settled(&self, entry: usize) -> Result<Settled, Refusal> {
+        let (mut residue, mut column) = (0, 0);
+        let plan = self.plan.lent();
+        let number = raw::settle(plan, &self.bytes, entry, &mut residue, &mut column);
+        Refusal::unless_0(number)?;
+        if column < self.plan.columns() {
+            Ok(Settled::Free { column })
+        } else {
+            Ok(Settled::Forced { residue })
+        }
     }
 }

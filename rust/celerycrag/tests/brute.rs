@@ -1,6 +1,7 @@
-//! Filing against brute force: for tiny plans every β is enumerated, and an
-//! entry is refused with 9 exactly when none fits it together with all kept
-//! before. Nothing here comes from the reference.
+//! Filing and settling against brute force: for tiny plans every β is
+//! enumerated. An entry is refused with 9 exactly when none fits it together
+//! with all kept before, and forced exactly when all that fit agree on it.
+//! Nothing here comes from the reference.
 
 mod common;
 use celerycrag::raw;
@@ -44,22 +45,67 @@ fn satisfies(plan: &Owned, store: &[u8], beta: &[u8]) -> bool {
         .all(|row| plan.product(&row[..columns], beta) == row[columns])
 }
 
-/// Files the list on an empty store and checks each answer, each store and the
-/// program at the end against the β that still fit.
+/// The residue and the column that settling tells of a row, by the β that fit
+/// alone, in the order of `every_beta`.
+///
+/// The column is the first one such that two β which agree behind it give
+/// different values. The last column counts up the slowest, so the first β that
+/// gives another value than the first of all differs from it in that column,
+/// and in none behind.
+fn settled(plan: &Owned, fitting: &[&Vec<u8>], row: &[u8]) -> (u8, usize) {
+    let first = fitting[0];
+    let residue = plan.product(row, first);
+    let other = fitting
+        .iter()
+        .find(|beta| plan.product(row, beta) != residue);
+    match other {
+        None => (residue, plan.columns()),
+        Some(other) => {
+            let column = (0..plan.columns()).rfind(|&j| first[j] != other[j]);
+            (plan.p as u8, column.expect("two different lists"))
+        }
+    }
+}
+
+/// Settles every entry and compares with the β that fit, and with a filing on a
+/// copy of the store.
+fn check_settled(plan: &Owned, store: &[u8], fitting: &[&Vec<u8>], rows: &[Vec<u8>]) {
+    for (entry, row) in rows.iter().enumerate() {
+        let expected = settled(plan, fitting, row);
+        let (mut residue, mut column) = (255, 999);
+        let answer = raw::settle(plan.lent(), store, entry, &mut residue, &mut column);
+        assert_eq!(answer, 0);
+        assert_eq!((residue, column), expected, "entry {entry} of {plan:?}");
+
+        let value = entry % plan.s;
+        let (mut copy, mut pivot) = (store.to_vec(), 999);
+        let filed = raw::file(plan.lent(), &mut copy, entry, value, &mut pivot);
+        let contradicts = column == plan.columns() && residue as usize != value;
+        let expected = if contradicts { (9, 999) } else { (0, column) };
+        assert_eq!((filed, pivot), expected, "entry {entry} of {plan:?}");
+    }
+}
+
+/// Files the list on an empty store and checks each answer, each store, what is
+/// settled before and after, and the program at the end against the β that
+/// still fit.
 fn check_list(plan: &Owned, list: &[(usize, usize)]) {
     let (columns, width) = (plan.columns(), plan.columns() + 1);
+    let rows: Vec<Vec<u8>> = (0..plan.entries()).map(|entry| row(plan, entry)).collect();
     let all = every_beta(plan);
     let mut fitting: Vec<&Vec<u8>> = all.iter().collect();
     let mut kept = Vec::new();
     let mut store = plan.empty_store();
     for &(entry, value) in list {
         let before = store.clone();
-        let row = row(plan, entry);
+        check_settled(plan, &store, &fitting, &rows);
+        assert_eq!(store, before);
+        let row = &rows[entry];
         let mut lent_row = vec![0; columns];
         assert_eq!(raw::row(plan.lent(), entry, &mut lent_row), 0);
-        assert_eq!(lent_row, row);
+        assert_eq!(lent_row, *row);
 
-        let fits = |beta: &&Vec<u8>| plan.product(&row, beta) as usize == value;
+        let fits = |beta: &&Vec<u8>| plan.product(row, beta) as usize == value;
         let both: Vec<&Vec<u8>> = fitting.iter().copied().filter(fits).collect();
         let mut column = 999;
         let answer = raw::file(plan.lent(), &mut store, entry, value, &mut column);
@@ -83,18 +129,19 @@ fn check_list(plan: &Owned, list: &[(usize, usize)]) {
         assert!(satisfying.eq(fitting.iter().copied()));
     }
 
+    check_settled(plan, &store, &fitting, &rows);
     let mut beta = vec![255; columns];
     assert_eq!(raw::coefficients(plan.lent(), &store, &mut beta), 0);
     assert!(fitting.contains(&&beta));
     let mut steps = vec![0; 4 * plan.step_count()];
     let mut written = 0;
     assert_eq!(raw::write(plan.lent(), &beta, &mut steps, &mut written), 0);
-    for entry in 0..plan.entries() {
+    for (entry, row) in rows.iter().enumerate() {
         let (mut y, mut bootstraps) = (99, 99);
         let (steps, digits) = (&steps[..written], plan.digits(entry));
         let answer = raw::run(plan.lent(), steps, &digits, &mut y, &mut bootstraps);
         assert_eq!((answer, bootstraps), (0, plan.bootstraps()));
-        assert_eq!(y, plan.product(&row(plan, entry), &beta));
+        assert_eq!(y, plan.product(row, &beta));
         for &(i, v) in &kept {
             assert!(i != entry || v == y as usize);
         }
@@ -265,10 +312,12 @@ fn entries_count_through_their_digits() {
 }
 
 /// Tries every store of two columns and bytes 0 to 3 under p = 3: the reduced
-/// ones are as many as the plane has points, lines and itself.
+/// ones are as many as the plane has points, lines and itself. Each settles
+/// every row, since the rows are all lists of two residues.
 #[test]
 fn every_store_of_two_columns() {
     let plan = Owned::zeros([3, 3, 2, 0, 0]);
+    let rows: Vec<Vec<u8>> = (0..9).map(|entry| row(&plan, entry)).collect();
     let all = every_beta(&plan);
     let mut sets = Vec::new();
     for number in 0..4usize.pow(6) {
@@ -277,6 +326,8 @@ fn every_store_of_two_columns() {
             0 => {
                 let fits = |beta: &Vec<u8>| satisfies(&plan, &store, beta);
                 sets.push(all.iter().map(fits).collect::<Vec<bool>>());
+                let fitting: Vec<&Vec<u8>> = all.iter().filter(|beta| fits(beta)).collect();
+                check_settled(&plan, &store, &fitting, &rows);
             }
             answer => assert_eq!(answer, 6),
         }

@@ -9,6 +9,7 @@ use common::plans::{outline, primes, product, reduced, Owned};
 use common::random::{cases, Random};
 use common::tally::Tally;
 use common::twins::{self, Lot};
+use reference::Settled;
 
 /// Shapes p s n m t at the limits of L, t, C and s^n, with s for every radix.
 const LARGEST: [[usize; 5]; 12] = [
@@ -35,7 +36,7 @@ const MIXED: [([usize; 5], &[u8]); 6] = [
     ([241, 3, 5, 26, 32], &[2, 3, 4, 5, 34]),
 ];
 
-/// All nine calls on a lot of this plan with other residues, a few more
+/// All ten calls on a lot of this plan with other residues, a few more
 /// filings, and a program.
 fn large(random: &mut Random, plan: Owned, tally: &mut Tally) {
     let mut lot = lot_of(random, plan);
@@ -60,6 +61,15 @@ fn large(random: &mut Random, plan: Owned, tally: &mut Tally) {
             (ran.y as usize, ran.bootstraps),
             (value, plan.bootstraps() as u64)
         );
+    }
+
+    // Empty, half full, and full, where every entry is forced.
+    let (half, full) = (reduced(random, &plan, 2), reduced(random, &plan, 1));
+    for (store, is_full) in [(plan.empty_store(), false), (half, false), (full, true)] {
+        for entry in [lot.entry, random.below(plan.entries())] {
+            let settled = twins::settle(&plan, &store, entry, tally).expect("an accepted call");
+            assert!(!is_full || matches!(settled, Settled::Forced(_)));
+        }
     }
 
     // With every other row led, an equation and a clearing have most to do.
@@ -136,6 +146,15 @@ fn nothing_overflows() {
         };
         twins::all(&lot, &mut tally);
         let plan = &lot.plan;
+        // Every row led, so that the coefficients are those of β.
+        let mut full = plan.empty_store();
+        for q in 0..columns {
+            (full[q * width + q], full[q * width + columns]) = (1, most);
+        }
+        let mut row = vec![0; columns];
+        assert_eq!(twins::row(plan, last, &mut row, &mut tally), 0);
+        let forced = Settled::Forced(plan.product(&row, &lot.beta) as usize);
+        assert_eq!(twins::settle(plan, &full, last, &mut tally), Ok(forced));
         let steps = twins::write(plan, &lot.beta, &lot.room, &mut tally).expect("accepted");
         assert!(twins::run(plan, &steps, &lot.digits, &mut tally).is_ok());
         assert_eq!(
@@ -145,7 +164,8 @@ fn nothing_overflows() {
     }
 }
 
-/// Every prime, every residue: the reduction and the inverse of each.
+/// Every prime, every residue: the reduction, the inverse and the opposite of
+/// each.
 #[test]
 fn every_residue_of_every_prime() {
     let mut tally = Tally::default();
@@ -176,6 +196,20 @@ fn every_residue_of_every_prime() {
                 let ran = twins::run(&plan, &steps, &[1], &mut tally).expect("accepted");
                 assert_eq!(ran.y as usize, z as usize * w as usize % p);
             }
+        }
+        // One digit and one coefficient: entry z times w.
+        let plan = Owned::zeros([p, 2, 1, 0, 0]).with_radices(&[p as u8]);
+        for z in 0..p {
+            for w in 0..p {
+                let settled = twins::settle(&plan, &[1, w as u8], z, &mut tally);
+                assert_eq!(settled, Ok(Settled::Forced(z * w % p)));
+            }
+            let settled = twins::settle(&plan, &[0, 0], z, &mut tally);
+            let expected = match z {
+                0 => Settled::Forced(0),
+                _ => Settled::Free(0),
+            };
+            assert_eq!(settled, Ok(expected));
         }
     }
 }
@@ -250,7 +284,7 @@ fn radices_at_the_limits() {
     }
 }
 
-/// The same lists in all nine calls, where the rest of a lot fits n digits.
+/// The same lists in all ten calls, where the rest of a lot fits n digits.
 #[test]
 fn radices_at_the_limits_in_every_call() {
     let mut tally = Tally::default();

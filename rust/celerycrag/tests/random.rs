@@ -4,15 +4,46 @@
 //!     CELERYCRAG_CASES=100000 CELERYCRAG_SEED=7 cargo test --release --test random -- --nocapture
 
 mod common;
+use celerycrag::raw;
 use common::faults::{fault, no_radix};
 use common::lots::{lot, noise, pairs};
 use common::plans::{outline, product, Owned};
 use common::random::{cases, Random};
 use common::tally::{Tally, CAUSES};
 use common::twins::{self, Lot};
+use reference::Settled;
 
-/// Files a whole table, with repeated and contradicting entries and faulty
-/// calls between, then writes its program and runs it on all inputs.
+/// Settles an entry, which is forced where it was kept. Then files it with every
+/// value, each on a copy of the store: of a forced entry its residue alone is
+/// implied, where it is a value at all, and a free one is new in its column.
+fn settle(
+    plan: &Owned,
+    store: &[u8],
+    entry: usize,
+    kept: Option<usize>,
+    tally: &mut Tally,
+) -> Settled {
+    let settled = twins::settle(plan, store, entry, tally).expect("an accepted call");
+    if let Some(value) = kept {
+        assert_eq!(settled, Settled::Forced(value), "entry {entry}");
+    }
+    let none = usize::MAX;
+    for value in 0..plan.s {
+        let (mut copy, mut column) = (store.to_vec(), none);
+        let answer = raw::file(plan.lent(), &mut copy, entry, value, &mut column);
+        let expected = match settled {
+            Settled::Forced(residue) if residue == value => (0, plan.columns()),
+            Settled::Forced(_) => (9, none),
+            Settled::Free(column) => (0, column),
+            Settled::Refused(number) => (number as u8, none),
+        };
+        assert_eq!((answer, column), expected, "{settled:?}, value {value}");
+    }
+    settled
+}
+
+/// Files a whole table, with repeated and contradicting entries, faulty calls
+/// and settling between, then writes its program and runs it on all inputs.
 fn whole_table(random: &mut Random, plan: &Owned, tally: &mut Tally) {
     let mut list = pairs(random, plan, 0..plan.entries());
     if random.one_in(2) {
@@ -23,6 +54,12 @@ fn whole_table(random: &mut Random, plan: &Owned, tally: &mut Tally) {
     for (entry, value) in list {
         if random.one_in(10) {
             foreign_call(random, plan, &store, tally);
+        }
+        if random.one_in(10) {
+            // The one that is filed next, and any.
+            for entry in [entry, random.below(plan.entries())] {
+                settle(plan, &store, entry, kept[entry], tally);
+            }
         }
         if twins::file(plan, &mut store, entry, value, tally).is_ok() {
             kept[entry] = Some(value);
@@ -58,6 +95,11 @@ fn whole_table(random: &mut Random, plan: &Owned, tally: &mut Tally) {
         assert_eq!(ran.y, plan.product(&row, &beta));
         if let Some(value) = kept {
             assert_eq!(ran.y as usize, value, "entry {entry}");
+        }
+        if random.one_in(8) {
+            if let Settled::Forced(residue) = settle(plan, &store, entry, kept, tally) {
+                assert_eq!(ran.y as usize, residue, "entry {entry}");
+            }
         }
     }
 }

@@ -2,7 +2,7 @@
 //! they never panic.
 
 use celerycrag::raw::{self, Lent};
-use celerycrag::{Filed, Plan, Program, Ran, Refusal, Shape, Step, Store};
+use celerycrag::{Filed, Plan, Program, Ran, Refusal, Settled, Shape, Step, Store};
 use std::error::Error;
 
 const XOR: Shape = Shape {
@@ -173,6 +173,7 @@ fn any_number_may_be_given() {
         assert_eq!(plan.digits(number), Err(Refusal::NO_ENTRY));
         assert_eq!(store.file(number, number), Err(Refusal::NO_ENTRY));
         assert_eq!(store.file(0, number), Err(Refusal::NO_VALUE));
+        assert_eq!(store.settled(number), Err(Refusal::NO_ENTRY));
     }
     assert_eq!(store, Store::new(&plan));
 }
@@ -217,6 +218,96 @@ fn a_store_files_and_comes_back_from_its_bytes() {
     let mut damaged = bytes;
     damaged[0] = 2;
     assert_eq!(Store::from_bytes(&plan, damaged), Err(Refusal::DAMAGED));
+}
+
+const fn forced(residue: u8) -> Settled {
+    Settled::Forced { residue }
+}
+
+const fn free(column: usize) -> Settled {
+    Settled::Free { column }
+}
+
+/// What the store says of each entry in turn.
+fn settled(store: &Store) -> Vec<Settled> {
+    let entries = 0..store.plan().entries();
+    let settled = |entry| store.settled(entry).expect("an entry");
+    entries.map(settled).collect()
+}
+
+#[test]
+fn entries_settle_as_others_are_filed() {
+    let mut store = Store::new(&xor());
+    assert_eq!(settled(&store), [forced(0), free(1), free(0), free(0)]);
+    store.file(1, 1).expect("kept");
+    assert_eq!(settled(&store), [forced(0), forced(1), free(0), free(0)]);
+    store.file(2, 1).expect("kept");
+    let before = store.clone();
+    assert_eq!(settled(&store), [forced(0), forced(1), forced(1), free(2)]);
+    assert_eq!(store.settled(4), Err(Refusal::NO_ENTRY));
+    assert_eq!(store, before);
+    store.file(3, 0).expect("kept");
+    assert_eq!(
+        settled(&store),
+        [forced(0), forced(1), forced(1), forced(0)]
+    );
+}
+
+/// Forced and free are what filing answers, and the largest residue of the
+/// largest prime is forced as any other.
+#[test]
+fn settled_entries_file_as_they_say() {
+    let shape = Shape {
+        p: 251,
+        s: 250,
+        n: 1,
+        m: 1,
+        t: 1,
+    };
+    let table = (0..251).rev().map(|z| z as u8).collect();
+    let plan = Plan::new(shape, vec![251], vec![1], table, vec![1, 2]).expect("a plan");
+    let mut store = Store::new(&plan);
+    let mut forced_ones = 0;
+    for entry in 0..plan.entries() {
+        let value = entry % 7;
+        match store.settled(entry).expect("an entry") {
+            Settled::Free { column } => {
+                assert_eq!(store.file(entry, value), Ok(Filed::New { column }));
+            }
+            Settled::Forced { residue } => {
+                let own = store.file(entry, residue.into());
+                let other = store.file(entry, (usize::from(residue) + 1) % 250);
+                let kept = if residue < 250 {
+                    Ok(Filed::Implied)
+                } else {
+                    Err(Refusal::NO_VALUE)
+                };
+                assert_eq!(own, kept);
+                assert_eq!(other, Err(Refusal::CONTRADICTION));
+                forced_ones += 1;
+            }
+        }
+    }
+    assert!(forced_ones >= plan.entries() - plan.columns());
+}
+
+#[test]
+fn a_forced_residue_may_be_no_value() {
+    let shape = Shape {
+        p: 5,
+        s: 2,
+        n: 1,
+        m: 0,
+        t: 0,
+    };
+    let plan = Plan::new(shape, vec![5], vec![], vec![], vec![]).expect("a plan");
+    let mut store = Store::new(&plan);
+    assert_eq!(store.settled(3), Ok(free(0)));
+    store.file(1, 1).expect("kept");
+    assert_eq!(settled(&store), [0, 1, 2, 3, 4].map(forced));
+    for value in 0..2 {
+        assert_eq!(store.file(3, value), Err(Refusal::CONTRADICTION));
+    }
 }
 
 #[test]

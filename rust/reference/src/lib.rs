@@ -1,5 +1,5 @@
 //! A naive twin of the table library: document 01, with the requests of 02 that
-//! have landed (C-11), in plain Rust.
+//! have landed (C-11, C-12), in plain Rust.
 //!
 //! It is written from the papers alone and shares no line with the library.
 //! Tests and benchmarks compare the two, so every function here takes the
@@ -13,6 +13,7 @@
 //! | [`test_store`] | store | number | 1 2 3 4 5 6 |
 //! | [`file()`] | store in and out, entry, value | [`Filed`] | 1 2 3 4 5 6 7 8 9 |
 //! | [`coefficients`] | store, β out | number | 1 2 3 4 5 6 |
+//! | [`settle`] | store, entry | [`Settled`] | 1 2 3 4 5 6 7 |
 //! | [`check_writing`] | β, step slice | number | 1 2 3 4 5 10 |
 //! | [`write()`] | β, step slice in and out | the filled part | the same |
 //! | [`run`] | steps, digits | [`Ran`], or a number | 1 2 3 4 5 11 12 |
@@ -41,5 +42,5 @@ pub use norm::worst_norm;
 pub use plan::{check_plan, Plan};
 pub use program::{check_writing, run, write, Ran};
 pub use row::row;
-pub use store::{coefficients, file, test_store, Filed};
+pub use store::{coefficients, file, settle, test_store, Filed, Settled};
 pub use text::filing_program;

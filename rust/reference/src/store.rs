@@ -1,5 +1,5 @@
 //! Document 01, "The store": reduced form, filing, and the coefficients read
-//! off.
+//! off; with document 02, C-12: the digit an unfiled entry already has.
 
 use crate::field::inverse;
 use crate::plan::{accept, Part};
@@ -13,6 +13,20 @@ pub enum Filed {
     /// The entry is kept; the store implied it already.
     Implied,
     /// The entry is not kept, for the cause of this number.
+    Refused(u32),
+}
+
+/// What settling an entry answers. 02, C-12: "reply Forced with a residue, or
+/// Free with a column".
+#[derive(Clone, Copy, Debug, PartialEq, Eq)]
+pub enum Settled {
+    /// "All coefficients reproducing the store give that residue there"; it may
+    /// be s or more.
+    Forced(usize),
+    /// "They don't": the cleared row's first coefficient that is not 0 is in
+    /// this column.
+    Free(usize),
+    /// The call is refused, for the cause of this number.
     Refused(u32),
 }
 
@@ -49,16 +63,22 @@ fn clear(p: usize, row: &mut [usize], by: &[usize], c: usize) {
     }
 }
 
+/// Takes from `equation`, over its whole length, what makes it zero in the
+/// pivot's column of every row.
+fn clear_by_rows(p: usize, rows: &[Vec<usize>], equation: &mut [usize]) {
+    for (q, row) in rows.iter().enumerate() {
+        if row[q] != 0 {
+            clear(p, equation, row, q);
+        }
+    }
+}
+
 /// Files one equation, C coefficients and a right-hand side, in rows that are
 /// in reduced form: clear the equation by the rows, find its pivot, normalise
 /// it, clear the pivot's column from the other rows.
 fn file_equation(p: usize, rows: &mut [Vec<usize>], mut equation: Vec<usize>) -> Filed {
     let columns = rows.len();
-    for (q, row) in rows.iter().enumerate() {
-        if row[q] != 0 {
-            clear(p, &mut equation, row, q);
-        }
-    }
+    clear_by_rows(p, rows, &mut equation);
     let Some(pivot) = lead(columns, &equation) else {
         return if equation[columns] == 0 {
             Filed::Implied
@@ -175,4 +195,45 @@ pub fn coefficients(
         *out = row[plan.columns()] as u8;
     }
     0
+}
+
+/// Settles an entry: whether all coefficients that reproduce the store give it
+/// the same residue, and which. 02, C-12: "The reply equals that of clearing
+/// the whole row", so the whole row is cleared here. Writes nothing.
+/// Causes 1 2 3 4 5 6 7.
+pub fn settle(
+    p: u64,
+    s: u64,
+    n: u64,
+    m: u64,
+    t: u64,
+    radices: &[u8],
+    weights: &[u8],
+    tables: &[u8],
+    d: &[u8],
+    store: &[u8],
+    entry: u64,
+) -> Settled {
+    let own = [(Part::Store, store.len())];
+    let plan = match accept(p, s, n, m, t, radices, weights, tables, d, &own, &[]) {
+        Ok(plan) => plan,
+        Err(number) => return Settled::Refused(number),
+    };
+    let (p, columns) = (plan.p, plan.columns());
+    let rows = rows_of(columns, store);
+    if !is_reduced(p, columns, &rows) {
+        return Settled::Refused(6);
+    }
+    if entry >= plan.entries() as u64 {
+        return Settled::Refused(7);
+    }
+    // With 0 on the right, the cleared row has there the opposite of what the
+    // coefficients give.
+    let mut equation = row_of(&plan, entry as usize);
+    equation.push(0);
+    clear_by_rows(p, &rows, &mut equation);
+    match lead(columns, &equation) {
+        Some(column) => Settled::Free(column),
+        None => Settled::Forced((p - equation[columns]) % p),
+    }
 }

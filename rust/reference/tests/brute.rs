@@ -1,10 +1,11 @@
-//! Filing against brute force: for tiny plans with p = 3 every β is
-//! enumerated, and a filing is refused exactly when none fits. About half of
-//! the random plans have a radix of its own for each digit.
+//! Filing and settling against brute force: for tiny plans with p = 3 every β
+//! is enumerated; a filing is refused exactly when none fits, and an entry is
+//! forced exactly when all that fit agree on it. About half of the random plans
+//! have a radix of its own for each digit.
 
 mod common;
 use common::{Owned, Random};
-use reference::Filed;
+use reference::{Filed, Settled};
 
 /// Every list of C residues modulo p.
 fn every_beta(plan: &Owned) -> Vec<Vec<u8>> {
@@ -35,8 +36,34 @@ fn satisfies(plan: &Owned, store: &[u8], beta: &[u8]) -> bool {
         .all(|row| product(plan, &row[..columns], beta) == row[columns])
 }
 
-/// Files the list on an empty store and checks each answer, each store and the
-/// program written at the end against the set of β that still fit.
+/// What every entry settles to, by the β that fit alone, in the order in which
+/// they are enumerated.
+///
+/// The column is the first one such that two β which agree behind it give the
+/// entry different values. The last column counts up the slowest, so the first
+/// β that gives another value than the first of all differs from it in that
+/// column, and in none behind.
+fn settled_by(plan: &Owned, fitting: &[Vec<u8>]) -> Vec<Settled> {
+    let settled = |entry| {
+        let (row, first) = (plan.row(entry), &fitting[0]);
+        let value = product(plan, &row, first);
+        match fitting
+            .iter()
+            .find(|&beta| product(plan, &row, beta) != value)
+        {
+            None => Settled::Forced(value as usize),
+            Some(other) => {
+                let column = (0..plan.columns()).rfind(|&j| first[j] != other[j]);
+                Settled::Free(column.expect("two different lists"))
+            }
+        }
+    };
+    (0..plan.entries()).map(settled).collect()
+}
+
+/// Files the list on an empty store and checks each answer, each store, what is
+/// settled before and after, and the program written at the end against the set
+/// of β that still fit.
 fn check_list(plan: &Owned, list: &[(u64, u64)]) {
     let all = every_beta(plan);
     let mut fitting = all.clone();
@@ -44,6 +71,7 @@ fn check_list(plan: &Owned, list: &[(u64, u64)]) {
     let mut store = plan.empty_store();
     for &(entry, value) in list {
         let before = store.clone();
+        assert_eq!(plan.settled(&store), settled_by(plan, &fitting));
         let row = plan.row(entry);
         let also = |beta: &&Vec<u8>| product(plan, &row, beta) as u64 == value;
         let both: Vec<Vec<u8>> = fitting.iter().filter(also).cloned().collect();
@@ -72,6 +100,11 @@ fn check_list(plan: &Owned, list: &[(u64, u64)]) {
         assert!(satisfying.eq(&fitting));
     }
 
+    assert_eq!(plan.settled(&store), settled_by(plan, &fitting));
+    for &(entry, value) in &kept {
+        let forced = Settled::Forced(value as usize);
+        assert_eq!(plan.settle(&store, entry), forced);
+    }
     let beta = plan.beta(&store);
     assert!(fitting.contains(&beta));
     let steps = plan.steps(&beta);
@@ -223,6 +256,27 @@ fn larger_random_plans_reproduce_what_they_keep() {
             }
         }
     }
+}
+
+/// Every store of three columns, and every row: with no links and products and
+/// three radices of 3, the rows are all lists of three residues.
+#[test]
+fn every_store_of_three_columns_settles_every_row() {
+    let plan = Owned::zeros(3, 3, 3, 0, 0);
+    let all = every_beta(&plan);
+    let mut reduced = 0;
+    for number in 0..3_usize.pow(12) {
+        let store: Vec<u8> = (0..12)
+            .map(|j| (number / 3_usize.pow(j) % 3) as u8)
+            .collect();
+        if plan.test(&store) == 0 {
+            let fits = |beta: &&Vec<u8>| satisfies(&plan, &store, beta);
+            let fitting: Vec<Vec<u8>> = all.iter().filter(fits).cloned().collect();
+            assert_eq!(plan.settled(&store), settled_by(&plan, &fitting));
+            reduced += 1;
+        }
+    }
+    assert_eq!(reduced, 27 + 117 + 39 + 1);
 }
 
 /// How many of the entries, filed in order with value 0, are New.

@@ -3,7 +3,7 @@
 
 mod common;
 use common::{call, Owned};
-use reference::{Filed, Ran};
+use reference::{Filed, Ran, Settled};
 
 /// That a plan without links and products and with n = 2 is answered so.
 #[track_caller]
@@ -135,7 +135,7 @@ fn cause_2_by_any_radix_comes_before_3_by_any_product() {
 
 /// What each call answers, all its own parts being as the plan's numbers ask.
 /// A refused call leaves them as they were.
-fn every_call(plan: &Owned) -> [u32; 8] {
+fn every_call(plan: &Owned) -> [u32; 9] {
     let columns = plan.columns();
     let (mut row, mut store, mut beta) = (vec![9; columns], plan.empty_store(), vec![9; columns]);
     let good = vec![1; columns];
@@ -147,6 +147,10 @@ fn every_call(plan: &Owned) -> [u32; 8] {
         _ => 0,
     };
     let read_off = call!(coefficients, plan, &plan.empty_store(), &mut beta);
+    let settled = match plan.settle(&plan.empty_store(), 1) {
+        Settled::Refused(number) => number,
+        _ => 0,
+    };
     let written = call!(write, plan, &good, &mut slice).len();
     let checked = call!(check_writing, plan, &good, &lent);
     for (answer, untouched) in [
@@ -164,6 +168,7 @@ fn every_call(plan: &Owned) -> [u32; 8] {
         plan.test(&plan.empty_store()),
         filed,
         read_off,
+        settled,
         checked,
         plan.run(&[], &vec![0; plan.n as usize]).err().unwrap_or(0),
         plan.worst(&good).err().unwrap_or(0),
@@ -183,7 +188,7 @@ fn month_and_bit() -> Owned {
 #[test]
 fn every_call_refuses_radices_alike() {
     let good = month_and_bit();
-    assert_eq!(every_call(&good), [0; 8]);
+    assert_eq!(every_call(&good), [0; 9]);
     for (radices, number) in [
         (&[12, 1][..], 2),
         (&[0, 2], 2),
@@ -207,7 +212,7 @@ fn every_call_refuses_radices_alike() {
             radices: radices.to_vec(),
             ..good.clone()
         };
-        assert_eq!(every_call(&plan), [number; 8], "{radices:?}");
+        assert_eq!(every_call(&plan), [number; 9], "{radices:?}");
     }
 }
 
@@ -220,8 +225,8 @@ fn two_causes_and_the_first_put_right() {
         every_call(&plan)
     };
     // 1 before a bad radix.
-    assert_eq!(with(&|plan| (plan.p, plan.radices[1]) = (15, 1)), [1; 8]);
-    assert_eq!(with(&|plan| plan.radices[1] = 1), [2; 8]);
+    assert_eq!(with(&|plan| (plan.p, plan.radices[1]) = (15, 1)), [1; 9]);
+    assert_eq!(with(&|plan| plan.radices[1] = 1), [2; 9]);
     // A bad radix before 3 by t, 4 and 5.
     let spoil = |plan: &mut Owned| {
         plan.weights = vec![13; 3];
@@ -233,9 +238,9 @@ fn two_causes_and_the_first_put_right() {
             spoil(plan);
             bad_radix(plan);
         }),
-        [2; 8]
+        [2; 9]
     );
-    assert_eq!(with(&spoil), [3; 8]);
+    assert_eq!(with(&spoil), [3; 9]);
     // The product before 4 and 5.
     let length_and_value = |plan: &mut Owned| plan.weights = vec![13; 3];
     let product = |plan: &mut Owned| plan.radices = vec![13; 4];
@@ -244,9 +249,9 @@ fn two_causes_and_the_first_put_right() {
             length_and_value(plan);
             product(plan);
         }),
-        [3; 8]
+        [3; 9]
     );
-    assert_eq!(with(&length_and_value), [4; 8]);
+    assert_eq!(with(&length_and_value), [4; 9]);
     // The number of radices before 5.
     let value = |plan: &mut Owned| plan.d[2] = 13;
     for radices in [&[12][..], &[12, 2, 2], &[]] {
@@ -255,10 +260,10 @@ fn two_causes_and_the_first_put_right() {
                 value(plan);
                 plan.radices = radices.to_vec();
             }),
-            [4; 8]
+            [4; 9]
         );
     }
-    assert_eq!(with(&value), [5; 8]);
+    assert_eq!(with(&value), [5; 9]);
 }
 
 #[test]
@@ -277,6 +282,9 @@ fn the_number_of_radices_before_the_causes_of_a_call() {
     assert_eq!(good.test(&store), 6);
     assert_eq!(one_radix.file(&mut store, 24, 4), Filed::Refused(4));
     assert_eq!(good.file(&mut store, 24, 4), Filed::Refused(6));
+    assert_eq!(one_radix.settle(&store, 24), Settled::Refused(4));
+    assert_eq!(good.settle(&store, 24), Settled::Refused(6));
+    assert_eq!(good.settle(&good.empty_store(), 24), Settled::Refused(7));
     assert_eq!(call!(check_writing, one_radix, &[0; 6], &[]), 4);
     assert_eq!(call!(check_writing, good, &[0; 6], &[]), 10);
     assert_eq!(one_radix.run(&[9; 4], &[12, 1]), Err(4));

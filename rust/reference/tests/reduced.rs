@@ -3,7 +3,7 @@
 
 mod common;
 use common::{call, Owned};
-use reference::Filed;
+use reference::{Filed, Settled};
 
 /// Plan X and the store of XOR: rows 0 1 2 are led, row 3 is zero.
 fn full() -> (Owned, Vec<u8>) {
@@ -40,6 +40,8 @@ fn damaged(plan: &Owned, store: &[u8]) {
     assert_eq!(plan.file(&mut after, 0, 0), Filed::Refused(6));
     assert_eq!(plan.file(&mut after, u64::MAX, u64::MAX), Filed::Refused(6));
     assert_eq!(after, store);
+    assert_eq!(plan.settle(store, 0), Settled::Refused(6));
+    assert_eq!(plan.settle(store, u64::MAX), Settled::Refused(6));
     let mut beta = vec![77; plan.columns()];
     assert_eq!(call!(coefficients, plan, store, &mut beta), 6);
     assert!(beta.iter().all(|&x| x == 77));

@@ -3,7 +3,7 @@
 
 mod common;
 use common::{call, Owned};
-use reference::Filed;
+use reference::{Filed, Settled};
 
 /// One repair of a call that meets every cause: after the i-th, cause i is no
 /// longer met. What is lent at first meets all of them.
@@ -135,6 +135,24 @@ fn coefficients_in_order() {
 }
 
 #[test]
+fn settle_in_order() {
+    let mut broken = Broken::new();
+    let (mut store, mut entry) = (vec![1; 43], 4);
+    for cause in [1, 2, 3, 4, 5, 6, 7] {
+        let answer = broken.plan.settle(&store, entry);
+        assert_eq!(answer, Settled::Refused(cause));
+        broken.repair(cause);
+        match cause {
+            4 => store = vec![1; 42],
+            6 => store = vec![0; 42],
+            7 => entry = 3,
+            _ => {}
+        }
+    }
+    assert_eq!(broken.plan.settle(&store, entry), Settled::Free(0));
+}
+
+#[test]
 fn writing_in_order() {
     let mut broken = Broken::new();
     // 1(2+2) + 0 + 1 + 1(6+12) + 3 = 26 steps.
@@ -228,6 +246,8 @@ fn lengths_come_before_values_across_parts() {
     assert_eq!(plan.test(&[0; 42]), 5);
     assert_eq!(call!(row, plan, 0, &mut [0; 7]), 4);
     assert_eq!(call!(coefficients, plan, &[0; 42], &mut [0; 5]), 4);
+    assert_eq!(plan.settle(&[0; 43], 4), Settled::Refused(4));
+    assert_eq!(plan.settle(&[0; 42], 4), Settled::Refused(5));
     assert_eq!(call!(check_writing, plan, &[9; 7], &[]), 4);
     assert_eq!(plan.run(&[9], &[9]), Err(4));
     assert_eq!(plan.worst(&[9; 7]), Err(4));
@@ -350,6 +370,7 @@ fn large_entries_and_values() {
     for entry in [4, 256, 1 << 32, u64::MAX] {
         assert_eq!(x.file(&mut store, entry, 0), Filed::Refused(7));
         assert_eq!(x.file(&mut store, entry, 9), Filed::Refused(7));
+        assert_eq!(x.settle(&store, entry), Settled::Refused(7));
         assert_eq!(call!(row, x, entry, &mut row), 7);
     }
     for value in [2, 256, 257, 1 << 32, u64::MAX] {

@@ -35,20 +35,20 @@ settle-requires c κs = search needs
 enum-known-a : tie.Need-enum-known-a
 enum-known-a c = search needs
 
-add-column : tie.Need-add-column
-add-column c = omega (arith, forced (c .before))
+add-no-column : tie.Need-add-no-column
+add-no-column c = omega (arith, forced (c .before))
 
-add-column-2 : tie.Need-add-column-2
-add-column-2 c = omega (arith, forced (c .before))
+add-no-column-2 : tie.Need-add-no-column-2
+add-no-column-2 c = omega (arith, forced (c .before))
 
-mul-column : tie.Need-mul-column
-mul-column c = omega (arith, forced (c .before))
+mul-no-column : tie.Need-mul-no-column
+mul-no-column c = omega (arith, forced (c .before))
 
 enum-known-a-2 : tie.Need-enum-known-a-2
 enum-known-a-2 c = search needs
 
-cast-residue : tie.Need-cast-residue
-cast-residue c = omega (arith, modulus (free (c .before)) .1)
+cast-no-residue : tie.Need-cast-no-residue
+cast-no-residue c = omega (arith, modulus (free (c .before)) .1)
 
 enum-known-a-3 : tie.Need-enum-known-a-3
 enum-known-a-3 c = search needs
@@ -77,11 +77,11 @@ celery-settle-spec =
     (tie.spec
     settle-requires
     enum-known-a
-    add-column
-    add-column-2
-    mul-column
+    add-no-column
+    add-no-column-2
+    mul-no-column
     enum-known-a-2
-    cast-residue
+    cast-no-residue
     enum-known-a-3
     returns
     returns-2

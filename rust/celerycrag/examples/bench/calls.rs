@@ -6,7 +6,7 @@ use celerycrag::{raw, Plan, Program, Store};
 use std::hint::black_box;
 
 /// The numbers of a plan as the reference takes them.
-fn numbers(plan: &Plan) -> [u64; 5] {
+pub fn numbers(plan: &Plan) -> [u64; 5] {
     let shape = plan.shape();
     [shape.p, shape.s, shape.n, shape.m, shape.t].map(|x| x as u64)
 }

@@ -3,7 +3,7 @@
 
 use crate::flint::Flint;
 use crate::plans::Case;
-use crate::timing::{nanoseconds, race, shown, Contender};
+use crate::timing::{nanoseconds, race, rounds, shown, Contender};
 use celerycrag::{raw, Filed, Plan, Store};
 use std::hint::black_box;
 
@@ -108,12 +108,7 @@ pub fn line(case: &Case, flint: &mut Option<Flint>) -> (String, Store) {
             reduced.nanoseconds as f64
         }));
     }
-    let rounds = match entries {
-        0..=64 => 50,
-        65..=256 => 10,
-        _ => 5,
-    };
-    let least = race(rounds, contenders);
+    let least = race(rounds(entries), contenders);
 
     let (library, reference) = (least[0], least[1]);
     let scaled = if entries <= WHOLE { "" } else { " (scaled)" };

@@ -9,6 +9,7 @@ mod clock;
 mod filing;
 mod flint;
 mod plans;
+mod settling;
 mod timing;
 
 use celerycrag::Plan;
@@ -68,9 +69,10 @@ fn main() {
         "| entries | C | p | New | library | an entry | reference | times | FLINT | of FLINT |"
     );
     println!("|---|---|---|---|---|---|---|---|---|---|");
+    let cases = plans::cases(most);
     let mut stores = Vec::new();
-    for case in plans::cases(most) {
-        let (line, store) = filing::line(&case, &mut flint);
+    for case in &cases {
+        let (line, store) = filing::line(case, &mut flint);
         println!("{line}");
         stores.push(store);
     }
@@ -96,6 +98,13 @@ fn main() {
     for line in lines {
         for store in &stores {
             println!("{}", line(store));
+        }
+    }
+
+    println!("\n## Settling\n\n{}", settling::INTRODUCTION);
+    for line in [settling::free_line, settling::forced_line] {
+        for (case, store) in cases.iter().zip(&stores) {
+            println!("{}", line(case, store));
         }
     }
 }

@@ -8,6 +8,15 @@ const BATCH: Duration = Duration::from_millis(2);
 /// Rounds for short calls.
 pub const ROUNDS: usize = 25;
 
+/// Rounds for a table of so many entries.
+pub fn rounds(entries: usize) -> usize {
+    match entries {
+        0..=64 => 50,
+        65..=256 => 10,
+        _ => 5,
+    }
+}
+
 /// A contender: each round tells its nanoseconds for one unit of work.
 pub type Contender<'a> = Box<dyn FnMut() -> f64 + 'a>;
 

@@ -1,4 +1,4 @@
-//! Random lots for the nine calls, with nothing wrong and of noise, and random
+//! Random lots for the ten calls, with nothing wrong and of noise, and random
 //! entries with values.
 
 use super::faults::EDGES;

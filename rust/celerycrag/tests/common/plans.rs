@@ -230,8 +230,14 @@ pub fn outline(random: &mut Random, most_columns: usize) -> Owned {
 /// A random store in reduced form, as no list of filings need have left it:
 /// about one row in `one_row_in` is led.
 pub fn reduced(random: &mut Random, plan: &Owned, one_row_in: usize) -> Vec<u8> {
+    let led = (0..plan.columns()).map(|_| random.one_in(one_row_in));
+    let led: Vec<bool> = led.collect();
+    reduced_with(random, plan, &led)
+}
+
+/// A random store in reduced form with just these rows led.
+pub fn reduced_with(random: &mut Random, plan: &Owned, led: &[bool]) -> Vec<u8> {
     let columns = plan.columns();
-    let led: Vec<bool> = (0..columns).map(|_| random.one_in(one_row_in)).collect();
     let mut store = plan.empty_store();
     for (q, row) in store.chunks_mut(columns + 1).enumerate() {
         if !led[q] {

@@ -4,12 +4,13 @@
 use std::collections::BTreeMap;
 
 /// The calls with the causes that each can meet.
-pub const CAUSES: [(&str, &[u8]); 9] = [
+pub const CAUSES: [(&str, &[u8]); 10] = [
     ("check", &[1, 2, 3, 4, 5]),
     ("row", &[1, 2, 3, 4, 5, 7]),
     ("test", &[1, 2, 3, 4, 5, 6]),
     ("file", &[1, 2, 3, 4, 5, 6, 7, 8, 9]),
     ("coefficients", &[1, 2, 3, 4, 5, 6]),
+    ("settle", &[1, 2, 3, 4, 5, 6, 7]),
     ("check_writing", &[1, 2, 3, 4, 5, 10]),
     ("write", &[1, 2, 3, 4, 5, 10]),
     ("run", &[1, 2, 3, 4, 5, 11, 12]),

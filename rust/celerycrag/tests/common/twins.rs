@@ -5,15 +5,17 @@
 use super::plans::Owned;
 use super::tally::Tally;
 use celerycrag::raw;
-use reference::{Filed, Ran};
+use reference::{Filed, Ran, Settled};
 use std::fmt::Debug;
 
 /// What a single number that is lent holds before the call; no call answers it.
 const OLD: usize = 0x5EED_5EED_5EED_5EED;
+/// The same of a byte that is at most p, and so at most 251.
+const OLD_BYTE: u8 = 0xFE;
 /// The elements beside a slice that is lent to be written.
 const MARGIN: usize = 37;
 
-/// Everything that the nine calls take.
+/// Everything that the ten calls take.
 #[derive(Clone, Debug)]
 pub struct Lot {
     pub plan: Owned,
@@ -129,6 +131,30 @@ pub fn coefficients(plan: &Owned, store: &[u8], beta: &mut Vec<u8>, tally: &mut 
     answer
 }
 
+/// What both reply of an entry. An accepted call tells the residue and C, or p
+/// and the column, and writes nothing else.
+pub fn settle(plan: &Owned, store: &[u8], entry: usize, tally: &mut Tally) -> Result<Settled, u8> {
+    let settled = by_reference!(settle, plan, store, entry as u64);
+    let (number, expected) = match settled {
+        Settled::Forced(residue) => (0, (residue as u8, plan.columns())),
+        Settled::Free(column) => (0, (plan.p as u8, column)),
+        Settled::Refused(number) => (number, (OLD_BYTE, OLD)),
+    };
+    let before = store.to_vec();
+    let (residue, (column, answer)) = fenced(&[OLD_BYTE], 0xA5, |residue| {
+        fenced(&[OLD], !OLD, |column| {
+            raw::settle(plan.lent(), store, entry, &mut residue[0], &mut column[0])
+        })
+    });
+    agreed("settle", answer, number, tally);
+    assert_eq!((residue[0], column[0]), expected, "{settled:?}");
+    assert!(store == before, "settling wrote to the store");
+    match answer {
+        0 => Ok(settled),
+        number => Err(number),
+    }
+}
+
 /// Makes the checking call and the writing one, which have to agree. An
 /// accepted writing gives the numbers written.
 pub fn write(plan: &Owned, beta: &[u8], room: &[u16], tally: &mut Tally) -> Result<Vec<u16>, u8> {
@@ -191,7 +217,7 @@ pub fn worst_norm(plan: &Owned, beta: &[u8], tally: &mut Tally) -> Result<usize,
     }
 }
 
-/// All nine calls on one lot, which stays as it is.
+/// All ten calls on one lot, which stays as it is.
 pub fn all(lot: &Lot, tally: &mut Tally) {
     let plan = &lot.plan;
     check(plan, tally);
@@ -199,6 +225,7 @@ pub fn all(lot: &Lot, tally: &mut Tally) {
     test(plan, &lot.store, tally);
     let _ = file(plan, &mut lot.store.clone(), lot.entry, lot.value, tally);
     coefficients(plan, &lot.store, &mut lot.beta.clone(), tally);
+    let _ = settle(plan, &lot.store, lot.entry, tally);
     let _ = write(plan, &lot.beta, &lot.room, tally);
     let _ = run(plan, &lot.steps, &lot.digits, tally);
     let _ = worst_norm(plan, &lot.beta, tally);

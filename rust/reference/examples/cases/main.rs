@@ -6,7 +6,7 @@
 //!
 //!     cargo run --release --offline -p reference --example cases < ../crates/cases/stdin > ../crates/cases/stdout
 
-use reference::Filed;
+use reference::{Filed, Settled};
 use std::fmt::Display;
 
 /// What is set, and what was printed.
@@ -111,6 +111,7 @@ impl Cases {
             ("store::test", []) => self.say("number", call!(test_store, self, &self.store)),
             ("store::file", [entry, value]) => self.file(*entry, *value),
             ("store::coefficients", []) => self.coefficients(),
+            ("store::settle", [entry]) => self.settle(*entry),
             ("program::check_writing", []) => self.say("number", self.check_writing()),
             ("program::write_into", []) => self.write_into(),
             ("program::write", []) => self.write(),
@@ -146,6 +147,14 @@ impl Cases {
         self.whole("beta", &beta);
         self.whole("store", &store);
         self.beta = beta;
+    }
+
+    fn settle(&mut self, entry: u64) {
+        match call!(settle, self, &self.store, entry) {
+            Settled::Forced(residue) => self.say("forced", residue),
+            Settled::Free(column) => self.say("free", column),
+            Settled::Refused(number) => self.say("refused", number),
+        }
     }
 
     fn check_writing(&self) -> u32 {

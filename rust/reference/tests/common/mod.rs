@@ -3,7 +3,7 @@
 #![allow(dead_code)]
 
 use reference::random::SplitMix;
-use reference::{Filed, Ran};
+use reference::{Filed, Ran, Settled};
 
 /// A plan with parts of its own, checked or not.
 #[derive(Clone)]
@@ -114,6 +114,16 @@ impl Owned {
 
     pub fn file(&self, store: &mut [u8], entry: u64, value: u64) -> Filed {
         call!(file, self, store, entry, value)
+    }
+
+    pub fn settle(&self, store: &[u8], entry: u64) -> Settled {
+        call!(settle, self, store, entry)
+    }
+
+    /// What settling answers for each entry in turn.
+    pub fn settled(&self, store: &[u8]) -> Vec<Settled> {
+        let settle = |entry| self.settle(store, entry);
+        (0..self.entries()).map(settle).collect()
     }
 
     pub fn beta(&self, store: &[u8]) -> Vec<u8> {
