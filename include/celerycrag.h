@@ -214,9 +214,10 @@ uint8_t celery_coefficients(CELERY_PLAN, const uint8_t *store, size_t store_len,
  * Writes:  *residue and *column, both. Forced: the residue, and C, which is no
  *          column. Free: p, which is no residue, and the column.
  * Cost:    celery_test and celery_row. Then the columns without a pivot are
- *          looked at from the left, for about 4 C multiplications at most; that
- *          is all where the entry is free early. Else at most about C^2 / 2
- *          more, as celery_file takes to compare an entry with the store.
+ *          looked at from the left, for at most 4 C multiplications, and C more
+ *          for a residue. Only where these columns are too many to tell by that
+ *          is the whole row cleared, for at most about C^2 / 2 more, as
+ *          celery_file does to compare an entry with the store.
  */
 uint8_t celery_settle(CELERY_PLAN, const uint8_t *store, size_t store_len,
                       size_t entry, uint8_t *residue, size_t *column);

@@ -1,4 +1,5 @@
--- The proof of demand 3: the state that a list of calls keeps, one turn, whole lists, and the program.
+-- The proof of demand 3: the state that a list of calls keeps, one turn, whole lists, and the program. Then what settling answers after a list,
+-- and the tables of cases.
 pub mod Turns
 pub mod Lists
 pub mod Programs

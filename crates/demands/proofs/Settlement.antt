@@ -1,5 +1,5 @@
 -- 02, C-12, after any list of filings under one accepted plan: the store law (`Held`) turns what solves the store into what reproduces the
--- kept entries, and `Standings` of `store` says what the answer means. Assumes nothing.
+-- kept entries, and `SettledEntries` of `store` says what the answer means. Assumes nothing.
 use mathlib.Core.Path.{_≡_, _∙_}
 use mathlib.Core.List.{List, [], List·Memᴰ}
 use mathlib.Core.Logic.{_↔_, Iff·trans}
@@ -15,11 +15,10 @@ use Rattle.plan.specs.Parts.{Given}
 use Rattle.plan.specs.declared.admission.Own.the-variants.{Store}
 use Rattle.plan.proofs.Admitting.{accepted-call}
 use Rattle.store.specs.Elimination.{cells}
-use Rattle.store.specs.Settled.{Gives, settleOwn, settleCauses, answerOf}
-use Rattle.store.specs.declared.settling.Settled.the-variants.{Forced}
+use Rattle.store.specs.Settled.{Gives, settleOwn, settleCauses}
 use Rattle.store.proofs.ReducedForm.{isReduced-means}
 use Rattle.store.proofs.EntryEquations.{satisfies-exactly}
-use Rattle.store.proofs.Standings.{settled-exactly}
+use Rattle.store.proofs.SettledEntries.{settled-exactly}
 use Rattle.demands.specs.Demand3.{Accepted, Filing, Belongs, emptyStore, storeOf, keptOf}
 use Rattle.demands.specs.Settlement.{AllGive, settled, Settlement}
 use Rattle.demands.proofs.Turns.{Held, within, held-empty}

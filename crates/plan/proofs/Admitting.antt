@@ -23,7 +23,7 @@ use Rattle.lists.proofs.Tests.{both-true}
 use Rattle.field.specs.Rows.{allBelow}
 use Rattle.field.proofs.Ranges.{residues-of}
 use Rattle.plan.specs.Causes.{first, gives}
-use Rattle.plan.specs.Numbers.{variables, columns, product, radicesFit, numberCauses, plan, numbersOf, answerOf, checked, Within}
+use Rattle.plan.specs.Numbers.{variables, product, radicesFit, numberCauses, plan, numbersOf, answerOf, checked, Within}
 use Rattle.plan.specs.Parts.{Given, lend, given, linkStart, lengthsFit, valuesFit, storeSize, ownFits, partCauses, callCauses, checkCauses, admitted, Lent}
 use Rattle.plan.specs.declared.numbers.Plan.{Plan}
 use Rattle.plan.specs.declared.numbers.Checked.the-variants.{Accepted, Refused}

@@ -30,3 +30,4 @@ pub mod StoreCalls
 pub mod Readiness
 pub mod OneReducedForm
 pub mod Standings
+pub mod SettledEntries

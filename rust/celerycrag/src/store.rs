@@ -117,9 +117,9 @@ impl Store {
     /// Whether the output of an entry is settled by the entries kept so far, and
     /// to which residue. The store stays as it is.
     ///
-    /// It costs what testing the store and making the entry's row cost, then
-    /// little where the entry is free in an early column, and else at most about
-    /// what an implied filing does.
+    /// It costs what testing the store and making the entry's row cost, and
+    /// little more where few columns up to the one told, or few at all, have no
+    /// pivot; else about as much as filing an implied entry.
     ///
     /// # Errors
     /// Cause 7. Cause 6 only where memory was damaged meanwhile, as with

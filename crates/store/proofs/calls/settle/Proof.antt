@@ -1,4 +1,4 @@
--- `store::calls::settle` meets its contract: what `admit` refuses, else causes 6 and 7, else how the entry stands (`Standings`).
+-- `store::calls::settle` meets its contract: what `admit` refuses, else causes 6 and 7, else how the entry stands (`SettledEntries`).
 -- Assumes nothing.
 use mathlib.Core.Path.{_≡_, sym, ap, _∙_}
 use mathlib.Core.Bool.{true}
@@ -16,7 +16,7 @@ use Rattle.plan.proofs.Refusals.{refused-answer}
 use Rattle.plan.proofs.Admitting.{Admitted, admission, turned-away}
 use Rattle.store.specs.Elimination.{isReduced, cells}
 use Rattle.store.proofs.StoreCalls.{columns-small, ready-of}
-use Rattle.store.proofs.Standings.{settled-call}
+use Rattle.store.proofs.SettledEntries.{settled-call}
 use Rattle.store.proofs.calls.settle.Statement.{statement}
 use Rattle.store.proofs.calls.settle.Tie as tie
 

@@ -128,7 +128,7 @@ returns c =
     let loop = c .before .loop in
     let all = le-antisymm (loop .inv .0) (c .loop-test .left) in
     ap (λ (x : ℕ). x % s .args .p) (loop .inv .2 ∙ ap (column-sum (s .args .p) (cells (s .args .c) (s .args .store .now)) (at (s .args .e .now)) (s .args .q)) all)
-    ∙ column-residual (s .pre .0) (s .pre .1 .0) (s .args .q) (s .pre .1 .1 .0) (s .pre .1 .1 .1)
+    ∙ column-residual (s .args .p) (s .args .c) (cells (s .args .c) (s .args .store .now)) (at (s .args .e .now)) (s .pre .0 .reduced) (s .args .q) (s .pre .1 .1 .0) (s .pre .1 .1 .1)
 
 pub residue-spec : {M : Type 1} → statement M
 residue-spec =

@@ -1,8 +1,7 @@
 -- `store::settling::settle_equation` meets its contract: the search answers the first column that has a value, or it gives up and the whole
 -- row is cleared (`Standings`). Assumes nothing.
-use mathlib.Core.Path.{_≡_}
 use Prim.Native.Nat.{_<_}
-use native.Mathlib.Nat.{le-refl, le-of-lt}
+use native.Mathlib.Nat.{le-refl}
 use native.Mathlib.Omega.{arith}
 use borrow.Author.Needs.{needs}
 use Rattle.lists.specs.Places.{at}

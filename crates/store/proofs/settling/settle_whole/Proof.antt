@@ -1,6 +1,6 @@
 -- `store::settling::settle_whole` meets its contract: the residual is the local array's front (`Outcomes`), and its first coefficient or its
 -- right-hand side says how the equation stands (`Standings`). Assumes nothing.
-use mathlib.Core.Path.{sym, _∙_}
+use mathlib.Core.Path.{sym}
 use Prim.Native.Nat.{_+_, _<_}
 use native.Mathlib.Omega.{arith}
 use lib.Seq.{length-take-le}
