@@ -1,6 +1,6 @@
 // Filing an equation into a store in reduced form.
 ghost use mathlib.Core.Path.{_≡_};
-ghost use Prim.Native.Nat.{ℕ, _+_, _-_, _*_, _≤_, _<_};
+ghost use Prim.Native.Nat.{ℕ, _+_, _-_, _*_, _%_, _≤_, _<_};
 ghost use lib.ListN.{length};
 ghost use Rattle.lists.specs.Places.{tab, at};
 ghost use Rattle.field.specs.Residues.{Modulus, Residues};
@@ -21,6 +21,17 @@ pub enum Filed {
     Refused(u8),
 }
 
+// The opposite of a residue.
+pub fn opposite(x: u8, p: u8) -> u8
+    requires { ⌜ x < p ⌝ }
+    ensures { λ r. ⌜ r ≡ (p - x) % p ⌝ }
+{
+    if x == 0 {
+        return 0;
+    }
+    p - x
+}
+
 // The factor by which a row is added so that f times it is subtracted. A row that begins with 0 is zero, and nothing of it is added.
 fn factor(f: u8, first: u8, p: u8) -> u8
     requires { ⌜ f < p ⌝ }
@@ -29,10 +40,7 @@ fn factor(f: u8, first: u8, p: u8) -> u8
     if first == 0 {
         return 0;
     }
-    if f == 0 {
-        return 0;
-    }
-    p - f
+    opposite(f, p)
 }
 
 // The residual of e with nothing reduced yet: C products of two residues fit in 32 bits. Each row is added from its own column on.

@@ -4,7 +4,7 @@
 // from the left and stops at the first that is not 0; where it would look at more places than a row cleared in one piece is worth, the
 // whole row is cleared as for filing.
 ghost use mathlib.Core.Path.{_≡_};
-ghost use Prim.Native.Nat.{_+_, _-_, _%_, _≤_, _<_};
+ghost use Prim.Native.Nat.{_≤_, _<_};
 ghost use lib.ListN.{length};
 ghost use Rattle.lists.specs.Places.{at};
 ghost use Rattle.plan.specs.Causes.{gives};
@@ -16,6 +16,7 @@ ghost use Rattle.store.specs.Stages.{Ready, Line, NextFree};
 ghost use Rattle.store.specs.Settled as specs;
 use crate::elimination::entry_equation;
 use crate::elimination::lead;
+use crate::elimination::opposite;
 use crate::elimination::residual;
 use plan::Plan;
 
@@ -24,17 +25,6 @@ pub enum Settled {
     Forced(u8),
     Free(usize),
     Refused(u8),
-}
-
-// The opposite of a residue.
-fn opposite(x: u8, p: u8) -> u8
-    requires { ⌜ x < p ⌝ }
-    ensures { λ r. ⌜ r ≡ (p - x) % p ⌝ }
-{
-    if x == 0 {
-        return 0;
-    }
-    p - x
 }
 
 // The first column from `from` on that has no pivot, or c: a row with 0 on the diagonal has none.

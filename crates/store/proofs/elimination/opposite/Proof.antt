@@ -1,10 +1,10 @@
--- `store::settling::opposite` meets its contract. Assumes nothing.
+-- `store::elimination::opposite` meets its contract. Assumes nothing.
 use mathlib.Core.Path.{sym}
 use native.Mathlib.Nat.{sub-zero, mod-self, mod-eq-of-lt}
 use native.Mathlib.Omega.{arith}
 use borrow.Author.Needs.{needs}
-use Rattle.store.proofs.settling.opposite.Statement.{statement}
-use Rattle.store.proofs.settling.opposite.Tie as tie
+use Rattle.store.proofs.elimination.opposite.Statement.{statement}
+use Rattle.store.proofs.elimination.opposite.Tie as tie
 
 returns : tie.Need-returns
 returns c = rw (c .if1 .taken, sub-zero (c .before .args .p)) (sym (mod-self (c .before .args .p)))
