@@ -1,8 +1,9 @@
 -- 01, "Cases (those with * are proved)": one collected table of facts about the definitions; and 02: facts about a plan whose digits have radices
--- of their own (C-11), and about the entries that are settled (C-12). Each computes.
+-- of their own (C-11), about the entries that are settled (C-12), and about the state of the store test (C-13). Each computes.
 -- X is the XOR plan; L is the plan with one link of weight 1 and table 1, 0, 0; F has p = 5; M has a month and a bit; D has one digit of radix
 -- p = 5. Assumes nothing.
 use mathlib.Core.Path.{_≡_, refl}
+use mathlib.Core.Bool.{Bool, true, false}
 use mathlib.Core.List.{List, [], _∷_}
 use Prim.Native.Nat.{ℕ, _+_, _*_, _%_}
 use Rattle.lists.specs.Places.{sum, tab, every, joined}
@@ -19,6 +20,7 @@ use Rattle.store.specs.declared.settling.Settled.the-variants as settled
 use Rattle.store.specs.declared.settling.Settled.the-variants.{Forced, Free}
 use Rattle.store.specs.Settled as settling
 use Rattle.store.specs.Settled.{standing, settleAnswer}
+use Rattle.store.specs.Reading.{rowSound, counted, stateAfter, isDamaged}
 use Rattle.program.specs.Steps.{tableAt, goodStep, wellFormed, assigned, stepped, registers, bootstraps, output}
 use Rattle.program.specs.Layout.{adds, linkSteps, productSteps, layout, stepCount}
 use Rattle.program.specs.Calls.{digitsFit, runAnswer}
@@ -180,4 +182,50 @@ settled-entries =
       no-entry = refl;
       damaged = refl;
       too-long = refl;
+    }
+
+-- what the state says after the last row of a store of two columns, modulo 3
+abbrev pub damaged : List ℕ → Bool
+damaged store = isDamaged 3 2 (stateAfter 3 2 store 2)
+
+pub record Read : Type 0 where
+  -- a pivot, and a column without one: the columns 0 and 1 are closed in turn, and the right-hand side stays
+  pub begun : stateAfter 3 2 (1 ∷ 2 ∷ 1 ∷ 0 ∷ 0 ∷ 0 ∷ []) 0 ≡ record { row = 0; sound = true; tops = 0 ∷ 0 ∷ 0 ∷ [] }
+  pub one-row : stateAfter 3 2 (1 ∷ 2 ∷ 1 ∷ 0 ∷ 0 ∷ 0 ∷ []) 1 ≡ record { row = 1; sound = true; tops = 0 ∷ 2 ∷ 1 ∷ [] }
+  pub two-rows : stateAfter 3 2 (1 ∷ 2 ∷ 1 ∷ 0 ∷ 0 ∷ 0 ∷ []) 2 ≡ record { row = 2; sound = true; tops = 0 ∷ 0 ∷ 1 ∷ [] }
+  pub free-column : damaged (1 ∷ 2 ∷ 1 ∷ 0 ∷ 0 ∷ 0 ∷ []) ≡ false
+  pub two-pivots : damaged (1 ∷ 0 ∷ 2 ∷ 0 ∷ 1 ∷ 2 ∷ []) ≡ false
+  pub empty : damaged (0 ∷ 0 ∷ 0 ∷ 0 ∷ 0 ∷ 0 ∷ []) ≡ false
+  -- a fault that is told by its own row, in row 0 alone and in the last row alone
+  pub first-diagonal : damaged (2 ∷ 0 ∷ 0 ∷ 0 ∷ 1 ∷ 0 ∷ []) ≡ true
+  pub last-diagonal : damaged (1 ∷ 0 ∷ 0 ∷ 0 ∷ 2 ∷ 0 ∷ []) ≡ true
+  pub first-not-zero : damaged (0 ∷ 0 ∷ 1 ∷ 0 ∷ 0 ∷ 0 ∷ []) ≡ true
+  pub last-not-zero : damaged (0 ∷ 0 ∷ 0 ∷ 0 ∷ 0 ∷ 1 ∷ []) ≡ true
+  -- one that is told by the row of its column: above a pivot, and p itself in a column without one
+  pub above-a-pivot : damaged (1 ∷ 1 ∷ 0 ∷ 0 ∷ 1 ∷ 0 ∷ []) ≡ true
+  pub no-residue : damaged (1 ∷ 3 ∷ 0 ∷ 0 ∷ 0 ∷ 0 ∷ []) ≡ true
+  -- one that only the state tells after the last row: each row is sound, and something lies below a diagonal, or p on the right
+  pub below-a-diagonal : stateAfter 3 2 (1 ∷ 0 ∷ 0 ∷ 1 ∷ 1 ∷ 0 ∷ []) 2 ≡ record { row = 2; sound = true; tops = 1 ∷ 0 ∷ 0 ∷ [] }
+  pub below-damaged : damaged (1 ∷ 0 ∷ 0 ∷ 1 ∷ 1 ∷ 0 ∷ []) ≡ true
+  pub right-hand-side : damaged (1 ∷ 0 ∷ 3 ∷ 0 ∷ 1 ∷ 0 ∷ []) ≡ true
+
+pub read : Read
+unfolding stateAfter rowSound counted isDamaged rowStart every tab
+read =
+    record {
+      begun = refl;
+      one-row = refl;
+      two-rows = refl;
+      free-column = refl;
+      two-pivots = refl;
+      empty = refl;
+      first-diagonal = refl;
+      last-diagonal = refl;
+      first-not-zero = refl;
+      last-not-zero = refl;
+      above-a-pivot = refl;
+      no-residue = refl;
+      below-a-diagonal = refl;
+      below-damaged = refl;
+      right-hand-side = refl;
     }

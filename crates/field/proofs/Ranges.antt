@@ -1,9 +1,9 @@
--- Bytes below p or within bounds, and rows to which nothing is added.
+-- Bytes below p, and rows to which nothing is added or that nothing raises.
 --     below-joined       a maximum is below a bound exactly when both numbers are
 --     residues-of, below-of     the test `allBelow` says `Residues`, and back
---     no-excess          a number is not above a bound exactly when its excess is below 1
 --     residues-tab, residues-snoc       lists of residues: by place, and with one residue more at the end
 --     plus-none          0 times a row added
+--     maxima-none        a row of zeros raises nothing
 -- Assumes nothing.
 use mathlib.Core.Path.{_≡_, refl, sym, ap₂, _∙_}
 use mathlib.Core.Bool.{true, _&&_}
@@ -12,15 +12,15 @@ use Prim.Native.Nat.{ℕ, zero, suc, max, _+_, _-_, _*_, _≤_, _<_}
 use native.Mathlib.Nat.{add-zero, zero-mul}
 use native.Mathlib.Decide.{decLt}
 use native.Mathlib.Omega.{arith}
-use lib.Dec.{leb, ltb}
+use lib.Dec.{ltb}
 use lib.ListN.{length}
 use Rattle.lists.specs.Places.{tab, at}
 use Rattle.lists.proofs.Tests.{every-at, every-of}
 use Rattle.lists.proofs.Tabs.{tab-length, tab-at, is-tab}
 use Rattle.lists.proofs.Parts.{at-past}
 use Rattle.field.specs.Residues.{Residues}
-use Rattle.field.specs.Rows.{plusTimes, allBelow}
-use borrow.Author.Tests.{lt-leb, le-leb, lt-ltb, le-ltb, ltb-true}
+use Rattle.field.specs.Rows.{plusTimes, allBelow, maxima}
+use borrow.Author.Tests.{lt-ltb, le-ltb, ltb-true}
 
 pub below-joined : (a b r q : ℕ) → r ≡ max a b → ltb r q ≡ (ltb a q && ltb b q)
 below-joined a b r q e = elim (decLt a q) [
@@ -32,12 +32,6 @@ below-joined a b r q e = elim (decLt a q) [
   | no ha ↦
       let l : q ≤ a = omega arith in
       le-ltb r q (omega arith) ∙ sym (ap₂ _&&_ (le-ltb a q l) refl)
-]
-
-pub no-excess : (x b : ℕ) → ltb (x - b) 1 ≡ leb x b
-no-excess x b = elim (decLt b x) [
-  | yes h ↦ le-ltb (x - b) 1 (omega arith) ∙ sym (lt-leb x b h)
-  | no h ↦ lt-ltb (x - b) 1 (omega arith) ∙ sym (le-leb x b (omega arith))
 ]
 
 pub residues-of : (p : ℕ) (xs : List ℕ) → 0 < p → allBelow p xs ≡ true → Residues p xs
@@ -64,3 +58,7 @@ residues-snoc p (x ∷ xs) y pos hy h (suc i) = residues-snoc p xs y pos hy (λ 
 pub plus-none : (g : ℕ) (xs ys : List ℕ) → g ≡ 0 → xs ≡ plusTimes g xs ys
 plus-none g xs ys z =
     is-tab xs (length xs) (λ j. at xs j + g * at ys j) 0 refl (λ j l. rw (z, zero-mul (at ys j)) (sym (add-zero (at xs j))))
+
+pub maxima-none : (xs ys : List ℕ) → allBelow 1 ys ≡ true → xs ≡ maxima xs ys
+maxima-none xs ys z =
+    is-tab xs (length xs) (λ j. max (at xs j) (at ys j)) 0 refl (λ j l. omega (arith, residues-of 1 ys (omega arith) z j))

@@ -7,11 +7,11 @@
 --     remainders p xs          xs modulo p, place by place
 --     Headroom k xs            each place of xs has room for k more in 32 bits
 --     allBelow p xs            each place of xs is below p, as a test
---     allWithin bs xs          no place of xs is above its place of bs, as a test
+--     maxima xs ys             the larger of xs and ys, place by place
 use mathlib.Core.Bool.{Bool}
 use mathlib.Core.List.{List}
-use Prim.Native.Nat.{ℕ, _+_, _*_, _%_, _<_}
-use lib.Dec.{leb, ltb}
+use Prim.Native.Nat.{ℕ, _+_, _*_, _%_, _<_, max}
+use lib.Dec.{ltb}
 use lib.ListN.{length}
 use Rattle.lists.specs.Places.{sum, tab, every, at}
 
@@ -36,5 +36,5 @@ Headroom k xs = (j : ℕ) → at xs j + k < 4294967296
 abbrev pub allBelow : ℕ → List ℕ → Bool
 allBelow p xs = every (λ j. ltb (at xs j) p) (length xs)
 
-abbrev pub allWithin : List ℕ → List ℕ → Bool
-allWithin bs xs = every (λ j. leb (at xs j) (at bs j)) (length xs)
+abbrev pub maxima : List ℕ → List ℕ → List ℕ
+maxima xs ys = tab (length xs) (λ j. max (at xs j) (at ys j))

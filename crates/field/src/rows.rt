@@ -144,26 +144,14 @@ pub fn all_below(xs: &[u8], p: u8) -> bool
     top < p
 }
 
-// By how much x is above b, or 0 where it is not.
-fn excess(x: u8, b: u8) -> u8
-    ensures { λ r. ⌜ r ≡ x - b ⌝ }
+// The larger of tops and xs, place by place. Each place is stored to, so that the loop becomes vector code.
+pub fn raise(tops: &mut [u8], xs: &[u8])
+    requires { ⌜ length (now xs) ≡ length (now tops) ⌝ }
+    ensures { λ _. ⌜ now (tops .exit) ≡ specs.maxima (now (tops .entry)) (now (xs .entry)) ⌝ }
 {
-    if x <= b {
-        return 0;
-    }
-    x - b
-}
-
-// Whether no byte of xs is above its place of bounds, by the largest excess.
-pub fn all_within(xs: &[u8], bounds: &[u8]) -> bool
-    requires { ⌜ length (now bounds) ≡ length (now xs) ⌝ }
-    ensures { λ r. ⌜ r ≡ specs.allWithin (now (bounds .entry)) (now (xs .entry)) ⌝ }
-{
-    let mut top: u8 = 0;
     let mut j = 0;
-    while j < xs.len() {
-        top = larger(top, excess(xs[j], bounds[j]));
+    while j < tops.len() {
+        tops[j] = larger(tops[j], xs[j]);
         j += 1;
     }
-    top < 1
 }

@@ -19,6 +19,7 @@ pub mod FilingSpans
 pub mod Holding
 pub mod Fronts
 pub mod Pasting
+pub mod SoundRows
 pub mod OneReading
 pub mod Multiples
 pub mod Deferring

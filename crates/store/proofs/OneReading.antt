@@ -1,242 +1,287 @@
--- The rows of a store tested in turn from the last to the first, each by the bounds that the rows below it set, and what that says of
--- reduced form.
---     Good                a row by itself: it is zero, or begins with a 1 on the diagonal and is within the bounds right of it
---     good-of, reduced-of       a store is in reduced form exactly when each row is good
---     Passed              the state with q rows to go: those from q on are good, and the bounds are those for the rows above
---     passed-none, passed-next, passed-not, passed-all       before the first row; a row that fits; one that does not; after the last
---     row-begin, row-within, row-length, passed-length       a row's part of the store, and the bounds' length after it
--- A row with a 1 on the diagonal has nothing below it in that column, since the rows below are zero left of their diagonal.
+-- The rows of a store taken in order, and the theorem: after the last row the state says damaged exactly when the store is not in reduced form.
+--     Tops                the columns after q rows. Column j is at most k exactly when each counted row is: all while it is open, those below its
+--                         diagonal once it is closed
+--     Known               the state after q rows: their number, whether each is sound, and the columns
+--     known               the state of the definition is so
+--     damaged-exactly     the theorem
+--     row-within, row-length, after-next      row q as the code cuts it, and the state with it taken
 -- Assumes nothing.
-use mathlib.Core.Path.{_≡_, sym, ap, ap₂, _∙_}
-use mathlib.Core.Bool.{true, false, false≢true, not-eq-not}
-use mathlib.Core.Logic.{_⊎_, inl, inr, ⊎-elim, ⊎-map, _≢_}
+use mathlib.Core.Path.{_≡_, refl, sym, ap, _∙_}
+use mathlib.Core.Bool.{Bool, true, false, cond, not, _&&_, true≢false}
+use mathlib.Core.Logic.{_⊎_, inl, inr, ⊎-elim, ⊎-map, _↔_, _≢_}
 use mathlib.Core.List.{List}
-use Prim.Native.Nat.{ℕ, _+_, _-_, _≤_, _<_}
-use native.Mathlib.Nat.{le-of-lt}
+use Prim.Native.Nat.{ℕ, zero, suc, _+_, _-_, _≤_, _<_, max}
+use native.Mathlib.Nat.{add-sub-cancel-left, le-max-left, le-max-right, le-of-lt, le-refl, not-suc-le-zero}
+use native.Mathlib.Numerals.{add-one}
 use native.Mathlib.Decide.{decLt, ℕ-discrete}
 use native.Mathlib.Omega.{arith}
-use lib.Dec.{leb, ltb}
-use lib.ListN.{length, take, drop, set, length-set}
-use lib.Seq.{getD-set-same, getD-set-other}
-use borrow.Author.Tests.{eq-eqb, ne-eqb, le-leb, leb-true, lt-ltb, ltb-true}
-use Rattle.lists.specs.Places.{every, tab, at}
-use Rattle.lists.proofs.Tests.{every-at, every-of}
-use Rattle.lists.proofs.Tabs.{tab-length}
-use Rattle.lists.proofs.Parts.{part-length, part-at, at-past, all-zero}
+use lib.Dec.{eqb, ltb}
+use lib.ListN.{length, take, drop, length-set}
+use lib.Seq.{getD-set-same, getD-set-other, getD-take, length-take-le}
+use borrow.Author.Tests.{eq-eqb, eqb-true, lt-ltb, ltb-true}
+use Rattle.lists.specs.Places.{tab, at}
+use Rattle.lists.proofs.Tests.{refute, both, both-true}
+use Rattle.lists.proofs.Tabs.{tab-length, tab-at}
+use Rattle.lists.proofs.Parts.{part-length, part-at, at-past}
+use Rattle.field.specs.Residues.{Residues}
+use Rattle.field.specs.Rows.{allBelow, maxima}
+use Rattle.field.proofs.Ranges.{residues-of, below-of}
 use Rattle.plan.specs.Parts.{storeSize}
-use Rattle.store.specs.Elimination.{ZeroRow, Pivot, Reduced, isReduced, rowStart, cells}
-use Rattle.store.specs.Reading.{bound, rowFits}
-use Rattle.store.proofs.RowStarts.{start-next, start-last, row-end}
+use Rattle.store.specs.Elimination.{ZeroRow, isReduced, rowStart, cells}
+use Rattle.store.specs.Reading.{State, begun, rowSound, counted, took, rowOf, stateAfter, isDamaged}
+use Rattle.store.proofs.RowStarts.{start-zero, start-next, row-end}
 use Rattle.store.proofs.ReducedForm.{isReduced-means}
+use Rattle.store.proofs.SoundRows.{Sound, InOrder, in-order, reduced-of}
 
--- row r, where it is not zero
-pub record Heads (p C : ℕ) (S : ℕ → ℕ → ℕ) (r : ℕ) : Type 0 where
-  pub left : (j : ℕ) → j < r → S r j ≡ 0
-  pub one : S r r ≡ 1
-  pub right : (j : ℕ) → r < j → j ≤ C → S r j ≤ bound p (S j j)
+-- two tests that hold together are the same
+same-tests : (a b : Bool) → (a ≡ true → b ≡ true) → (b ≡ true → a ≡ true) → a ≡ b
+same-tests true b h k = sym (h refl)
+same-tests false b h k = sym (refute b (λ e. true≢false (sym (k e))))
 
-abbrev pub Good : ℕ → ℕ → (ℕ → ℕ → ℕ) → ℕ → Type 0
-Good p C S r = ZeroRow C S r ⊎ Heads p C S r
+-- which side of a test held
+sides : (b x y : Bool) → cond b x y ≡ true → ((b ≡ true) × (x ≡ true)) ⊎ ((b ≡ false) × (y ≡ true))
+sides true x y h = inl (refl, h)
+sides false x y h = inr (refl, h)
 
-bound-free : (p d : ℕ) → d ≡ 0 → bound p d ≡ p - 1
-unfolding bound
-bound-free p d e = rw (eq-eqb d 0 e)
+module _ (p C : ℕ) (S : ℕ → ℕ → ℕ) where
+  pub Tops : ℕ → List ℕ → Type 0
+  Tops q tops = (j k : ℕ) → j ≤ C → (at tops j ≤ k) ↔ ((r : ℕ) → r < q → (j < q → j < r) → S r j ≤ k)
 
-bound-pivot : (p d : ℕ) → d ≢ 0 → bound p d ≡ 0
-unfolding bound
-bound-pivot p d h = rw (ne-eqb d 0 h)
+  pub record Known (s : State) : Type 0 where
+    pub places : length (s .tops) ≡ C + 1
+    pub tops : Tops (s .row) (s .tops)
+    pub sound : (s .sound ≡ true) ↔ ((r : ℕ) → r < s .row → Sound p C S r)
 
-bound-small : (p d : ℕ) → bound p d ≤ p - 1
-bound-small p d = elim (ℕ-discrete d 0) [
-  | yes e ↦ omega (arith, bound-free p d e)
-  | no h ↦ omega (arith, bound-pivot p d h)
-]
+  -- one row more, row q, by its places
+  module _ (low : 2 ≤ p) (s : State) (w : Known s) (row : List ℕ) (count : length row ≡ C + 1) (l : s .row < C)
+      (place : (j : ℕ) → j ≤ C → at row j ≡ S (s .row) j) where
+    abbrev q : ℕ
+    q = s .row
 
-module _ (p C : ℕ) (S : ℕ → ℕ → ℕ) (low : 2 ≤ p) where
-  -- beyond the last row there is nothing on the diagonal
-  good-of : S C C ≡ 0 → Reduced p C S → (r : ℕ) → r < C → Good p C S r
-  good-of last red r l = ⊎-map (λ z. z) (λ v. record { left = v .left; one = v .one; right = right v }) (red .rows r l)
-    where
-      right : Pivot C S r → (j : ℕ) → r < j → j ≤ C → S r j ≤ bound p (S j j)
-      right v j k h = elim (ℕ-discrete (S j j) 0) [
-        | yes e ↦ omega (arith, bound-free p (S j j) e, red .residues r j l h)
-        | no d ↦
-            let b : j < C = elim (ℕ-discrete j C) [ yes e ↦ absurd (d (ap (λ (n : ℕ). S n n) e ∙ last)) | no n ↦ omega arith ] in
-            let z : S r j ≡ 0 = ⊎-elim (λ z. absurd (d (z j h))) (λ u. u .others r l (λ e. omega arith)) (red .rows j b) in
-            omega (arith, z)
-      ]
+    all-zero : (allBelow 1 row ≡ true) ↔ ZeroRow C S q
+    all-zero = ((λ t j h. sym (place j h) ∙ omega (arith, residues-of 1 row (omega arith) t j)), (λ z. below-of 1 row (small z)))
+      where
+        small : ZeroRow C S q → Residues 1 row
+        small z i = elim (decLt C i) [
+          | yes b ↦ omega (arith, at-past row i (omega (arith, count)))
+          | no b ↦ omega (arith, place i (omega arith), z i (omega arith))
+        ]
 
-  reduced-of : ((r : ℕ) → r < C → Good p C S r) → Reduced p C S
-  reduced-of good = record { residues = λ r j l h. ⊎-elim (λ z. omega (arith, z j h)) (λ v. small r j h v) (good r l); rows = λ r l. ⊎-map (λ z. z) (pivot r l) (good r l) }
-    where
-      small : (r j : ℕ) → j ≤ C → Heads p C S r → S r j < p
-      small r j h v = elim (decLt j r) [
-        | yes b ↦ omega (arith, v .left j b)
-        | no b ↦
-            elim (ℕ-discrete j r) [
-              | yes e ↦ omega (arith, ap (S r) e, v .one)
-              | no d ↦ omega (arith, v .right j (omega arith) h, bound-small p (S j j))
-            ]
-      ]
+    above : ℕ
+    above = at (s .tops) q
 
-      pivot : (r : ℕ) → r < C → Heads p C S r → Pivot C S r
-      pivot r l v =
-          record {
-            left = v .left;
-            one = v .one;
-            others = λ i k d. ⊎-elim (λ z. z r (le-of-lt l)) (λ u. elim (decLt i r) [
-              | yes b ↦ omega (arith, u .right r b (le-of-lt l), bound-pivot p (S r r) (λ e. omega (arith, v .one)))
-              | no b ↦ u .left r (omega arith)
-            ]) (good i k);
-          }
+    -- column q is open
+    above-means : (k : ℕ) → (above ≤ k) ↔ ((i : ℕ) → i < q → S i q ≤ k)
+    unfolding above Tops
+    above-means k = (
+      (λ h i b. w .tops q k (le-of-lt l) .0 h i b (λ n. absurd (omega arith))),
+      (λ h. w .tops q k (le-of-lt l) .1 (λ i b n. h i b)),
+    )
 
--- row q as the code cuts it, up to where the row below begins
-abbrev pub rowTo : ℕ → List ℕ → ℕ → List ℕ
-rowTo C store end = take (end - (end - (C + 1))) (drop (end - (C + 1)) store)
+    sound-of : rowSound p q above row ≡ true → Sound p C S q
+    unfolding rowSound
+    sound-of e =
+        ⊎-map
+        (λ z.
+        let k : above ≤ p - 1 = omega (arith, ltb-true above p (z .1)) in
+        (all-zero .0 (z .0), λ i h. omega (arith, above-means (p - 1) .0 k i h)))
+        (λ o.
+        let t = both-true (eqb above 0) (eqb (at row q) 1) (o .1) in
+        let k : above ≤ 0 = omega (arith, eqb-true above 0 (t .0)) in
+        (sym (place q (le-of-lt l)) ∙ eqb-true (at row q) 1 (t .1), λ i h. omega (arith, above-means 0 .0 k i h)))
+        (sides (allBelow 1 row) (ltb above p) (eqb above 0 && eqb (at row q) 1) e)
 
-pub record Passed (p C : ℕ) (store : List ℕ) (q begin : ℕ) (bounds : List ℕ) : Type 0 where
+    of-sound : Sound p C S q → rowSound p q above row ≡ true
+    unfolding rowSound
+    of-sound v =
+        ⊎-elim
+        (λ z.
+        let k : above ≤ p - 1 = above-means (p - 1) .1 (λ i h. omega (arith, z .1 i h)) in
+        rw (all-zero .1 (z .0)) (lt-ltb above p (omega arith)))
+        (λ o.
+        let k : above ≤ 0 = above-means 0 .1 (λ i h. omega (arith, o .1 i h)) in
+        rw (refute (allBelow 1 row) (λ t. omega (arith, all-zero .0 t q (le-of-lt l), o .0)))
+        (both (eqb above 0) (eqb (at row q) 1) (eq-eqb above 0 (omega arith)) (eq-eqb (at row q) 1 (place q (le-of-lt l) ∙ o .0))))
+        v
+
+    abbrev next : List ℕ
+    next = counted q (s .tops) row
+
+    width : length (maxima (s .tops) row) ≡ C + 1
+    width = tab-length (length (s .tops)) (λ j. max (at (s .tops) j) (at row j)) ∙ w .places
+
+    places-next : length next ≡ C + 1
+    unfolding counted
+    places-next = length-set (maxima (s .tops) row) q 0 ∙ width
+
+    closed : at next q ≡ 0
+    unfolding counted
+    closed = getD-set-same (maxima (s .tops) row) q 0 0 (omega (arith, width))
+
+    other : (j : ℕ) → j ≤ C → j ≢ q → at next j ≡ max (at (s .tops) j) (S q j)
+    unfolding counted
+    other j h d =
+        getD-set-other (maxima (s .tops) row) q j 0 0 d
+        ∙ tab-at (length (s .tops)) (λ j. max (at (s .tops) j) (at row j)) 0 j (omega (arith, w .places))
+        ∙ ap (max (at (s .tops) j)) (place j h)
+
+    tops-next : Tops (q + 1) next
+    unfolding Tops
+    tops-next j k h = elim (ℕ-discrete j q) [
+      | yes e ↦ ((λ b r m n. absurd (omega (arith, n (omega arith)))), (λ b. omega (arith, ap (at next) e, closed)))
+      | no d ↦
+          let o = other j h d in (
+            (λ b r m n. elim (ℕ-discrete r q) [
+              | yes e ↦ omega (arith, ap (λ (i : ℕ). S i j) e, le-max-right (at (s .tops) j) (S q j))
+              | no f ↦
+                  let a : at (s .tops) j ≤ k = omega (arith, le-max-left (at (s .tops) j) (S q j)) in
+                  w .tops j k h .0 a r (omega arith) (λ i. n (omega arith))
+            ]),
+            (λ b.
+                let a : at (s .tops) j ≤ k = w .tops j k h .1 (λ r m n. b r (omega arith) (λ i. n (omega arith))) in
+                let c : S q j ≤ k = b q (omega arith) (λ i. omega arith) in
+                omega arith),
+          )
+    ]
+
+    pub known-next : Known (took p s row)
+    unfolding above
+    known-next =
+        record {
+          places = places-next;
+          tops = tops-next;
+          sound = (
+            (λ t r m.
+                let b = both-true (rowSound p q above row) (s .sound) t in
+                elim (ℕ-discrete r q) [
+                  | yes e ↦ rw e (sound-of (b .0))
+                  | no d ↦ w .sound .0 (b .1) r (omega arith)
+                ]),
+            (λ all. both (rowSound p q above row) (s .sound) (of-sound (all q (omega arith))) (w .sound .1 (λ r m. all r (omega arith)))),
+          );
+        }
+
+  -- after the last row
+  module _ (low : 2 ≤ p) (s : State) (w : Known s) (end : s .row ≡ C) where
+    abbrev passes : Bool
+    passes = s .sound && (ltb (at (s .tops) C) p && allBelow 1 (take C (s .tops)))
+
+    order-of : passes ≡ true → InOrder p C S
+    unfolding Tops
+    order-of e =
+        let a = both-true (s .sound) (ltb (at (s .tops) C) p && allBelow 1 (take C (s .tops))) e in
+        let b = both-true (ltb (at (s .tops) C) p) (allBelow 1 (take C (s .tops))) (a .1) in
+        record {
+          rows = λ r l. w .sound .0 (a .0) r (omega (arith, end));
+          under = λ r j l h.
+              let m : j < C = omega arith in
+              let z : at (s .tops) j ≤ 0 = omega (arith, getD-take C (s .tops) j 0 m, residues-of 1 (take C (s .tops)) (omega arith) (b .1) j) in
+              omega (arith, w .tops j 0 (le-of-lt m) .0 z r (omega (arith, end)) (λ i. h));
+          last = λ r l.
+              let z : at (s .tops) C ≤ p - 1 = omega (arith, ltb-true (at (s .tops) C) p (b .0)) in
+              omega (arith, w .tops C (p - 1) (le-refl C) .0 z r (omega (arith, end)) (λ i. absurd (omega (arith, end))));
+        }
+
+    of-order : InOrder p C S → passes ≡ true
+    unfolding Tops
+    of-order o =
+        both (s .sound) (ltb (at (s .tops) C) p && allBelow 1 (take C (s .tops))) (w .sound .1 (λ r l. o .rows r (omega (arith, end))))
+        (both (ltb (at (s .tops) C) p) (allBelow 1 (take C (s .tops))) (lt-ltb (at (s .tops) C) p right) (below-of 1 (take C (s .tops)) under))
+      where
+        right : at (s .tops) C < p
+        right = let z = w .tops C (p - 1) (le-refl C) .1 (λ r l n. omega (arith, o .last r (omega (arith, end)))) in omega arith
+
+        under : Residues 1 (take C (s .tops))
+        under j = elim (decLt j C) [
+          | yes m ↦ omega (arith, getD-take C (s .tops) j 0 m, w .tops j 0 (le-of-lt m) .1 (λ r l n. omega (arith, o .under r j (omega (arith, end)) (n (omega (arith, end))))))
+          | no m ↦ omega (arith, at-past (take C (s .tops)) j (omega (arith, length-take-le C (s .tops) (omega (arith, w .places)))))
+        ]
+
+    damaged-known : isDamaged p C s ≡ not (isReduced p C S)
+    unfolding isDamaged
+    damaged-known =
+        ap not
+        (same-tests passes (isReduced p C S) (λ e. isReduced-means p C S .1 (reduced-of p C S low (order-of e)))
+        (λ e. of-order (in-order p C S (isReduced-means p C S .0 e))))
+
+module _ (p C : ℕ) (store : List ℕ) where
+  row-taken : (q : ℕ) → stateAfter p C store q .row ≡ q
+  unfolding stateAfter
+  row-taken zero = refl
+  row-taken (suc q) = ap (λ (n : ℕ). n + 1) (row-taken q) ∙ add-one q
+
+  after-next : (q : ℕ) → stateAfter p C store (q + 1) ≡ took p (stateAfter p C store q) (rowOf C store q)
+  unfolding stateAfter
+  after-next q = rw (add-one q)
+
+  module _ (low : 2 ≤ p) (fits : length store ≡ storeSize C) where
+    row-length : (q : ℕ) → q < C → length (rowOf C store q) ≡ C + 1
+    row-length q l = part-length store (rowStart C q) (C + 1) (omega (arith, row-end C q l))
+
+    known : (q : ℕ) → q ≤ C → Known p C (cells C store) (stateAfter p C store q)
+    unfolding stateAfter Tops
+    known zero l =
+        record {
+          places = tab-length (C + 1) (λ _. 0);
+          tops = λ j k h. ((λ b r m n. absurd (not-suc-le-zero m)), (λ b. omega (arith, tab-at {A = ℕ} (C + 1) (λ _. 0) 0 j (omega arith))));
+          sound = ((λ e r m. absurd (not-suc-le-zero m)), (λ h. refl));
+        }
+    known (suc q) l =
+        let e = row-taken q in
+        known-next p C (cells C store) low (stateAfter p C store q) (known q (omega arith)) (rowOf C store q) (row-length q l) (omega (arith, e))
+        (λ j h. part-at store (rowStart C q) (C + 1) j (omega arith) ∙ ap (λ (r : ℕ). cells C store r j) (sym e))
+
+    pub after-places : (q : ℕ) → q ≤ C → length (stateAfter p C store q .tops) ≡ C + 1
+    after-places q l = known q l .places
+
+    pub damaged-exactly : isDamaged p C (stateAfter p C store C) ≡ not (isReduced p C (cells C store))
+    damaged-exactly = damaged-known p C (cells C store) low (stateAfter p C store C) (known C (le-refl C)) (row-taken C)
+
+-- the state before each turn of the loop, and where the next row begins
+pub record Taken (p C : ℕ) (store : List ℕ) (begin : ℕ) (s : State) : Type 0 where
   pub low : 2 ≤ p
   pub size : length store ≡ storeSize C
-  pub within : q ≤ C
-  pub begins : begin ≡ rowStart C q
-  pub places : length bounds ≡ C + 1
-  pub before : (j : ℕ) → j < q → at bounds j ≡ 0
-  pub from : (j : ℕ) → q ≤ j → j ≤ C → at bounds j ≡ bound p (cells C store j j)
-  pub rows : (r : ℕ) → q ≤ r → r < C → Good p C (cells C store) r
+  pub within : s .row ≤ C
+  pub begins : begin ≡ rowStart C (s .row)
+  pub state : s ≡ stateAfter p C store (s .row)
 
-last : (C : ℕ) (store : List ℕ) → length store ≡ storeSize C → cells C store C C ≡ 0
-last C store fits = at-past store (rowStart C C + C) (omega (arith, start-last C))
-
-pub passed-none : {p C : ℕ} {store : List ℕ} → 2 ≤ p → length store ≡ storeSize C → (bounds : List ℕ) → bounds ≡ tab (C + 1) (λ _. 0)
-    → Passed p C store C (length store) (set bounds C (p - 1))
-passed-none {p} {C} {store} low fits bounds z =
+pub taken-none : {p C : ℕ} {store : List ℕ} → 2 ≤ p → length store ≡ storeSize C → (tops : List ℕ) → tops ≡ tab (C + 1) (λ _. 0)
+    → Taken p C store 0 (record { row = 0; sound = true; tops = tops })
+unfolding stateAfter
+taken-none {p} {C} {store} low fits tops z =
     record {
       low = low;
       size = fits;
       within = omega arith;
-      begins = fits ∙ sym (start-last C);
-      places = length-set bounds C (p - 1) ∙ count;
-      before = λ j l. getD-set-other bounds C j (p - 1) 0 (λ e. omega arith) ∙ all-zero (C + 1) bounds z j;
-      from = λ j k l.
-          let e : j ≡ C = omega arith in
-          ap (at (set bounds C (p - 1))) e ∙ getD-set-same bounds C (p - 1) 0 (omega (arith, count))
-          ∙ sym (bound-free p (cells C store j j) (ap (λ (n : ℕ). cells C store n n) e ∙ last C store fits));
-      rows = λ r k l. absurd (omega arith);
+      begins = sym (start-zero C);
+      state = ap (λ (xs : List ℕ). record { row = 0; sound = true; tops = xs }) z;
     }
-  where
-    count : length bounds ≡ C + 1
-    count = ap length z ∙ tab-length (C + 1) (λ _. 0)
 
-module _ {p C : ℕ} {store : List ℕ} {q begin : ℕ} {bounds : List ℕ} (w : Passed p C store q begin bounds) where
-  pub passed-all : q ≤ 0 → true ≡ isReduced p C (cells C store)
-  passed-all h = sym (isReduced-means p C (cells C store) .1 (reduced-of p C (cells C store) (w .low) (λ r l. w .rows r (omega arith) l)))
+module _ {p C : ℕ} {store : List ℕ} {begin : ℕ} {s : State} (w : Taken p C store begin s) where
+  pub taken-places : length (s .tops) ≡ C + 1
+  taken-places = ap (λ (t : State). length (t .tops)) (w .state) ∙ after-places p C store (w .low) (w .size) (s .row) (w .within)
 
-  module _ (some : 0 < q) where
-    ends : begin ≡ rowStart C (q - 1) + (C + 1)
-    ends = let k : q ≡ q - 1 + 1 = omega arith in w .begins ∙ ap (rowStart C) k ∙ start-next C (q - 1)
+  pub taken-all : C ≤ s .row → s ≡ stateAfter p C store C
+  taken-all h = w .state ∙ ap (stateAfter p C store) (omega (arith, w .within))
 
-    pub row-begin : C + 1 ≤ begin
-    row-begin = omega (arith, ends)
+  module _ (more : s .row < C) where
+    pub row-within : begin + (C + 1) ≤ length store
+    row-within = omega (arith, w .begins, w .size, row-end C (s .row) more)
 
-    pub row-within : begin ≤ length store
-    row-within = omega (arith, ends, w .size, row-end C (q - 1) (omega (arith, w .within)))
+    -- the row as the code cuts it
+    abbrev cut : List ℕ
+    cut = take (begin + (C + 1) - begin) (drop begin store)
 
-    one-less : begin - (C + 1) ≡ rowStart C (q - 1)
-    one-less = omega (arith, ends)
-
-    wide : begin - (begin - (C + 1)) ≡ C + 1
-    wide = omega (arith, row-begin)
-
-    abbrev row : List ℕ
-    row = rowTo C store begin
-
-    pub row-length : length row ≡ C + 1
-    row-length = part-length store (begin - (C + 1)) (begin - (begin - (C + 1))) (omega (arith, row-begin, row-within)) ∙ wide
-
-    place : (j : ℕ) → j ≤ C → at row j ≡ cells C store (q - 1) j
-    place j h = part-at store (begin - (C + 1)) (begin - (begin - (C + 1))) j (rw wide (omega arith)) ∙ ap (λ (n : ℕ). at store (n + j)) one-less
-
-    elsewhere : (b j : ℕ) → j ≢ q - 1 → at (set bounds (q - 1) b) j ≡ at bounds j
-    elsewhere b j d = getD-set-other bounds (q - 1) j b 0 d
-
-    mark : (b : ℕ) → at (set bounds (q - 1) b) (q - 1) ≡ b
-    mark b = getD-set-same bounds (q - 1) b 0 (omega (arith, w .places, w .within))
-
-    good : rowFits (q - 1) bounds row ≡ true → Good p C (cells C store) (q - 1)
-    unfolding rowFits
-    good h = elim (ℕ-discrete (at row (q - 1)) 0) [
-      | yes e ↦
-          let t : every (λ j. ltb (at row j) 1) (length row) ≡ true = rw (eq-eqb (at row (q - 1)) 0 e) at h in
-          inl (λ j k. sym (place j k) ∙ omega (arith, ltb-true (at row j) 1 (every-at (λ j. ltb (at row j) 1) (length row) t j (rw row-length (omega arith)))))
-      | no d ↦
-          let t : every (λ j. leb (at row j) (at (set bounds (q - 1) 1) j)) (length row) ≡ true = rw (ne-eqb (at row (q - 1)) 0 d) at h in
-          inr (heads d (λ j k. leb-true (at row j) (at (set bounds (q - 1) 1) j) (every-at (λ j. leb (at row j) (at (set bounds (q - 1) 1) j)) (length row) t j (rw row-length (omega arith)))))
-    ]
-      where
-        heads : at row (q - 1) ≢ 0 → ((j : ℕ) → j ≤ C → at row j ≤ at (set bounds (q - 1) 1) j) → Heads p C (cells C store) (q - 1)
-        heads d t =
-            record {
-              left = λ j k. omega (arith, place j (omega (arith, w .within)), t j (omega (arith, w .within)), elsewhere 1 j (λ e. omega arith), w .before j (omega arith));
-              one =
-                  let n : at row (q - 1) ≤ 1 = omega (arith, t (q - 1) (omega (arith, w .within)), mark 1) in
-                  sym (place (q - 1) (omega (arith, w .within))) ∙ omega arith;
-              right = λ j k h. omega (arith, place j h, t j h, elsewhere 1 j (λ e. omega arith), w .from j (omega arith) h);
-            }
-
-    fits-good : Good p C (cells C store) (q - 1) → rowFits (q - 1) bounds row ≡ true
-    unfolding rowFits
-    fits-good g =
-        let l : q - 1 ≤ C = omega (arith, w .within) in
-        ⊎-elim
-        (λ z.
-        rw (eq-eqb (at row (q - 1)) 0 (place (q - 1) l ∙ z (q - 1) l))
-        (every-of (λ j. ltb (at row j) 1) (length row) (λ j k. lt-ltb (at row j) 1 (omega (arith, place j (inside j k), z j (inside j k))))))
-        (λ v.
-        rw (ne-eqb (at row (q - 1)) 0 (λ e. omega (arith, place (q - 1) l, v .one)))
-        (every-of (λ j. leb (at row j) (at (set bounds (q - 1) 1) j)) (length row) (λ j k. le-leb (at row j) (at (set bounds (q - 1) 1) j) (bounded v j (inside j k)))))
-        g
-      where
-        inside : (j : ℕ) → j < length row → j ≤ C
-        inside j k = let k′ : j < C + 1 = rw row-length at k in omega arith
-
-        bounded : Heads p C (cells C store) (q - 1) → (j : ℕ) → j ≤ C → at row j ≤ at (set bounds (q - 1) 1) j
-        bounded v j h = elim (decLt j (q - 1)) [
-          | yes b ↦ omega (arith, place j h, v .left j b)
-          | no b ↦
-              elim (ℕ-discrete j (q - 1)) [
-                | yes e ↦ rw e (omega (arith, place (q - 1) (omega (arith, w .within)), v .one, mark 1))
-                | no d ↦ omega (arith, place j h, v .right j (omega arith) h, elsewhere 1 j d, w .from j (omega arith) h)
-              ]
-        ]
-
-    pub passed-length : (bounds′ : List ℕ) (b : ℕ) → bounds′ ≡ set bounds (q - 1) b → length bounds′ ≡ C + 1
-    passed-length bounds′ b e = ap length e ∙ length-set bounds (q - 1) b ∙ w .places
-
-    pub passed-next : rowFits (q - 1) bounds row ≡ true → (bounds′ : List ℕ)
-        → bounds′ ≡ set bounds (q - 1) (bound p (at row (q - 1))) → Passed p C store (q - 1) (begin - (C + 1)) bounds′
-    passed-next h bounds′ e =
+    pub taken-next : (t : State) → t ≡ took p s cut → Taken p C store (begin + (C + 1)) t
+    taken-next t e =
+        let n : t .row ≡ s .row + 1 = ap (λ (u : State). u .row) e in
         record {
           low = w .low;
           size = w .size;
-          within = omega (arith, w .within);
-          begins = one-less;
-          places = passed-length bounds′ (bound p (at row (q - 1))) e;
-          before = λ j l. other j (λ k. omega arith) ∙ w .before j (omega arith);
-          from = λ j k l. elim (ℕ-discrete j (q - 1)) [
-            | yes i ↦
-                ap₂ at e i ∙ mark (bound p (at row (q - 1))) ∙ ap (bound p) (place (q - 1) (omega (arith, w .within))) ∙ ap (λ (n : ℕ). bound p (cells C store n n)) (sym i)
-            | no d ↦ other j d ∙ w .from j (omega arith) l
-          ];
-          rows = λ r k l. elim (ℕ-discrete r (q - 1)) [
-            | yes i ↦ rw i (good h)
-            | no d ↦ w .rows r (omega arith) l
-          ];
+          within = omega (arith, n);
+          begins = omega (arith, w .begins, start-next C (s .row), ap (rowStart C) n);
+          state = e ∙ ap (λ (u : State). took p u cut) (w .state) ∙ step ∙ ap (stateAfter p C store) (sym n);
         }
       where
-        other : (j : ℕ) → j ≢ q - 1 → at bounds′ j ≡ at bounds j
-        other j d = ap (λ (xs : List ℕ). at xs j) e ∙ elsewhere (bound p (at row (q - 1))) j d
-
-    pub passed-not : rowFits (q - 1) bounds row ≡ false → false ≡ isReduced p C (cells C store)
-    passed-not h =
-        sym (not-eq-not {a = isReduced p C (cells C store)} {b = false} .0 (λ t.
-        false≢true (sym h ∙ fits-good (good-of p C (cells C store) (w .low) (last C store (w .size)) (isReduced-means p C (cells C store) .0 t) (q - 1) (omega (arith, w .within))))))
+        step : took p (stateAfter p C store (s .row)) cut ≡ stateAfter p C store (s .row + 1)
+        step = rw (after-next p C store (s .row), add-sub-cancel-left begin (C + 1), w .begins)
