@@ -1,11 +1,12 @@
 -- The laws of `every` and of `&&`: a test of all places below n, computed once, gives the fact at each place, and the facts give the test.
 --     refute                   a test that cannot hold is false
+--     same-tests               two tests that hold together are the same
 --     and-false, and-assoc     the standard library's, passed on
 --     both-true, both          from a conjunction to its halves, and back
 --     every-next               one place more
 --     every-at, every-of       from the test to a place, and from all places to the test
 -- Assumes nothing.
-use mathlib.Core.Path.{_≡_, refl, ap, _∙_}
+use mathlib.Core.Path.{_≡_, refl, sym, ap, _∙_}
 use mathlib.Core.Bool.{Bool, true, false, _&&_, false≢true}
 use mathlib.Core.Logic.{⊎-elim}
 use Prim.Native.Nat.{ℕ, zero, suc, _+_, _<_}
@@ -17,6 +18,10 @@ pub use mathlib.Core.Bool.{and-false, and-assoc}
 pub refute : (b : Bool) → (b ≡ true → ⊥) → b ≡ false
 refute true h = absurd (h refl)
 refute false h = refl
+
+pub same-tests : (a b : Bool) → (a ≡ true → b ≡ true) → (b ≡ true → a ≡ true) → a ≡ b
+same-tests true b h k = sym (h refl)
+same-tests false b h k = sym (refute b (λ e. false≢true (k e)))
 
 pub both-true : (a b : Bool) → (a && b) ≡ true → (a ≡ true) × (b ≡ true)
 both-true true b h = (refl, h)

@@ -20,7 +20,9 @@ pub mod Holding
 pub mod Fronts
 pub mod Pasting
 pub mod SoundRows
+pub mod RowStates
 pub mod OneReading
+pub mod TakingRows
 pub mod Multiples
 pub mod Deferring
 pub mod Freeing

@@ -4,7 +4,7 @@
 --     InOrder             each row is sound, nothing lies below a diagonal, and the right-hand sides are residues
 --     in-order, reduced-of      a store is in reduced form exactly when it is so
 -- Assumes nothing.
-use mathlib.Core.Path.{_≡_, ap, _∙_}
+use mathlib.Core.Path.{_≡_, ap}
 use mathlib.Core.Logic.{_⊎_, ⊎-elim, ⊎-map}
 use Prim.Native.Nat.{ℕ, _≤_, _<_}
 use native.Mathlib.Nat.{le-refl, le-of-lt}
@@ -25,7 +25,8 @@ module _ (p C : ℕ) (S : ℕ → ℕ → ℕ) where
   pub in-order : Reduced p C S → InOrder p C S
   in-order red =
       record {
-        rows = λ r l. ⊎-map (λ z. (z, λ i h. red .residues i r (omega arith) (le-of-lt l))) (λ v. (v .one, λ i h. v .others i (omega arith) (λ e. omega arith))) (red .rows r l);
+        rows = λ r l.
+            ⊎-map (λ z. (z, λ i h. red .residues i r (omega arith) (le-of-lt l))) (λ v. (v .one, λ i h. v .others i (omega arith) (λ e. omega arith))) (red .rows r l);
         under = left-zero p C S red;
         last = λ r l. red .residues r C l (le-refl C);
       }

@@ -35,7 +35,8 @@ places : (c : tie.After-take-rows) → length (c .take-rows .last .0) ≡ c .bef
 places c =
     let start = c .before .before .before in
     let args = start .args in
-    ap (λ (s : State). length (s .tops)) (c .take-rows .ensures) ∙ after-places (args .p) (args .c) (args .store .now) (start .pre .1 .0 .0) (start .pre .1 .1) (args .c) (le-refl (args .c))
+    ap (λ (s : State). length (s .tops)) (c .take-rows .ensures)
+    ∙ after-places (args .p) (args .c) (args .store .now) (start .pre .1 .0 .0) (start .pre .1 .1) (args .c) (le-refl (args .c))
 
 front : (c : tie.After-take-rows) (rest : List ℕ) → take (c .before .before .before .args .c + 1) (c .take-rows .last .0 ++ rest) ≡ c .take-rows .last .0
 front c rest = take-at (c .take-rows .last .0) rest (c .before .before .before .args .c + 1) (places c)

@@ -1,12 +1,12 @@
--- `store::reduced::take_rows` meets its contract: the rows are taken in order (`OneReading`). Assumes nothing.
-use mathlib.Core.Path.{_≡_, sym, ap, _∙_}
-use Prim.Native.Nat.{ℕ, _+_, _-_}
+-- `store::reduced::take_rows` meets its contract: the rows are taken in order (`TakingRows`). Assumes nothing.
+use mathlib.Core.Path.{sym, ap, _∙_}
+use Prim.Native.Nat.{_+_, _-_}
 use native.Mathlib.Omega.{arith}
 use lib.ListN.{length}
 use Rattle.lists.proofs.Tabs.{tab-length}
 use Rattle.lists.proofs.Parts.{cut-length}
 use Rattle.store.specs.Reading.{State, stateOf}
-use Rattle.store.proofs.OneReading.{Taken, taken-none, taken-places, taken-next, taken-all, row-within}
+use Rattle.store.proofs.TakingRows.{Taken, taken-none, taken-places, taken-next, taken-all, row-within}
 use Rattle.store.proofs.reduced.take_rows.Statement.{statement}
 use Rattle.store.proofs.reduced.take_rows.Tie as tie
 
