@@ -162,7 +162,8 @@ uint8_t celery_row(CELERY_PLAN, size_t entry, uint8_t *row, size_t row_len);
  * Lent:    store, C (C + 1) bytes.
  * Causes:  1 2 3 4 5, 6.
  * Writes:  nothing.
- * Cost:    one pass over the store.
+ * Cost:    one pass over the store, row 0 first, to its end also where it is
+ *          damaged.
  */
 uint8_t celery_test(CELERY_PLAN, const uint8_t *store, size_t store_len);
 

@@ -1,9 +1,11 @@
-//! Benchmarks: the library beside the reference, and filing also beside FLINT.
-//! Prints a page in Markdown; `run-bench` writes it to docs/BENCHMARKS.md. With
-//! a number, only tables of at most so many entries are timed.
+//! Benchmarks: the library beside the reference, filing also beside FLINT, and
+//! the store test beside a build before, where there is one. Prints a page in
+//! Markdown; `run-bench` writes it to docs/BENCHMARKS.md. With a number, only
+//! tables of at most so many entries are timed.
 //!
 //!     cargo run --release --example bench -- 256
 
+mod before;
 mod calls;
 mod clock;
 mod filing;
@@ -12,6 +14,7 @@ mod plans;
 mod settling;
 mod timing;
 
+use before::Builds;
 use celerycrag::Plan;
 use flint::Flint;
 use timing::shown;
@@ -42,7 +45,9 @@ const INTRODUCTION: &str = "\
 All figures come from one run of `rust/run-bench`, one thread, built for release. \
 Each is the least of 5 to 50 rounds in which the contenders take turns, in \
 processor time, so that other work on the machine counts little; still the ratios \
-are steadier than the times. Plans are \
+are steadier than the times. Each round calls its contenders at another depth of the \
+stack, 16 of which cover a page, because where the stack lies can change short \
+times. Plans are \
 random, all digits of radix 2, but for the one of 744 entries: its radices are 12, \
 31 and 2, a month, a day and a bit. The table filed is that of the first link, so \
 that every entry is kept. The reference is `rust/reference`, a naive twin that is made to be \
@@ -105,6 +110,18 @@ fn main() {
     for line in [settling::free_line, settling::forced_line] {
         for (case, store) in cases.iter().zip(&stores) {
             println!("{}", line(case, store));
+        }
+    }
+
+    if let Some(builds) = Builds::open() {
+        println!(
+            "\n## The store test beside the landing before\n\n{}",
+            before::INTRODUCTION
+        );
+        for (case, store) in cases.iter().zip(&stores) {
+            for line in builds.lines(case, store) {
+                println!("{line}");
+            }
         }
     }
 }

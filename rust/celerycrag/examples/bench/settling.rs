@@ -105,13 +105,19 @@ fn line(
     )
 }
 
-/// The entries that are free once the first tenth of the table is filed.
-pub fn free_line(case: &Case, _full: &Store) -> String {
+/// The store of the first tenth of the table, and how many entries that is.
+pub fn first_tenth(case: &Case) -> (Store, usize) {
     let filed = case.values.len().div_ceil(10);
     let mut store = Store::new(&case.plan);
     for (entry, &value) in case.values.iter().take(filed).enumerate() {
         store.file(entry, value).expect("an entry kept");
     }
+    (store, filed)
+}
+
+/// The entries that are free once the first tenth of the table is filed.
+pub fn free_line(case: &Case, _full: &Store) -> String {
+    let (store, filed) = first_tenth(case);
     let free = |entry| match store.settled(entry).expect("an entry") {
         Settled::Free { column } => Some((entry, column)),
         Settled::Forced { .. } => None,

@@ -1,6 +1,9 @@
-//! Timing: the minimum of several rounds, the contenders by turns.
+//! Timing: the minimum of several rounds, the contenders by turns. The library
+//! keeps what it works with on the stack, and where that lies, which is random
+//! for each process, can change short times: so each round has another depth.
 
 use crate::clock::now;
+use std::hint::black_box;
 use std::time::Duration;
 
 /// A batch of calls takes at least about this long.
@@ -41,15 +44,47 @@ pub fn calls<'a>(units: usize, mut call: impl FnMut() + 'a) -> Contender<'a> {
     })
 }
 
-/// The least of each contender over the rounds.
-pub fn race(rounds: usize, mut contenders: Vec<Contender>) -> Vec<f64> {
-    let mut least = vec![f64::INFINITY; contenders.len()];
-    for _ in 0..rounds {
-        for (least, contender) in least.iter_mut().zip(&mut contenders) {
-            *least = least.min(contender());
-        }
+/// The depths of the stack at which contenders are called.
+pub const DEPTHS: usize = 16;
+
+/// Does the work so many frames further down the stack. With what the compiler
+/// adds, a frame has about 256 bytes: DEPTHS of them cover a page.
+#[inline(never)]
+fn deeper(frames: usize, work: &mut dyn FnMut()) {
+    let mut frame = [0_u8; 192];
+    black_box(&mut frame);
+    match frames {
+        0 => work(),
+        _ => deeper(frames - 1, work),
+    }
+    black_box(&mut frame);
+}
+
+/// The least of each contender at each depth over the rounds, infinity where
+/// the rounds are too few to come there. A round has one depth for all.
+pub fn race_by_depth(rounds: usize, mut contenders: Vec<Contender>) -> Vec<[f64; DEPTHS]> {
+    let mut least = vec![[f64::INFINITY; DEPTHS]; contenders.len()];
+    for round in 0..rounds {
+        // In steps of 5, so that few rounds, too, are all over the page.
+        let depth = round * 5 % DEPTHS;
+        deeper(depth, &mut || {
+            for (least, contender) in least.iter_mut().zip(&mut contenders) {
+                least[depth] = least[depth].min(contender());
+            }
+        });
     }
     least
+}
+
+/// The least of each contender over the rounds.
+pub fn race(rounds: usize, contenders: Vec<Contender>) -> Vec<f64> {
+    let by_depth = race_by_depth(rounds, contenders);
+    by_depth.into_iter().map(least).collect()
+}
+
+/// The least of all depths.
+pub fn least(by_depth: [f64; DEPTHS]) -> f64 {
+    by_depth.into_iter().fold(f64::INFINITY, f64::min)
 }
 
 /// Nanoseconds for a reader.

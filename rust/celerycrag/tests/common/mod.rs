@@ -1,5 +1,6 @@
-//! What the tests share: random numbers, plans with parts of their own, the
-//! calls made twice, on the library and on the reference, and the program.
+//! What the tests share: random numbers, plans with parts of their own, stores
+//! with bytes changed, the calls made twice, on the library and on the
+//! reference, and the program.
 #![allow(dead_code)]
 
 pub mod faults;
@@ -7,6 +8,7 @@ pub mod lots;
 pub mod plans;
 pub mod program;
 pub mod random;
+pub mod stores;
 pub mod tally;
 pub mod texts;
 pub mod twins;

@@ -43,6 +43,17 @@ impl Owned {
         }
     }
 
+    /// A plan of just so many columns, most of them by products, its residues
+    /// all zero. Up to 64 columns there is always one.
+    pub fn of_columns(p: usize, columns: usize) -> Owned {
+        let blocks = (1..=33).rfind(|blocks| columns / blocks * blocks == columns);
+        let blocks = blocks.expect("one block at least");
+        let variables = columns / blocks;
+        assert!(variables <= 64, "no plan has {columns} columns");
+        let n = variables.min(12);
+        Owned::zeros([p, 2, n, variables - n, blocks - 1])
+    }
+
     /// The same with other radices, which need not be n.
     pub fn with_radices(self, radices: &[u8]) -> Owned {
         Owned {

@@ -39,7 +39,8 @@ impl Tally {
         every && self.counts.keys().all(|&(_, given)| given == answer)
     }
 
-    fn count(&self, call: &'static str, answer: u8) -> u64 {
+    /// How many calls of this name gave this answer.
+    pub fn count(&self, call: &'static str, answer: u8) -> u64 {
         self.counts.get(&(call, answer)).copied().unwrap_or(0)
     }
 

@@ -82,7 +82,9 @@ pub fn row(plan: &Owned, entry: usize, row: &mut Vec<u8>, tally: &mut Tally) -> 
 
 pub fn test(plan: &Owned, store: &[u8], tally: &mut Tally) -> u8 {
     let expected = by_reference!(test_store, plan, store);
-    agreed("test", raw::test(plan.lent(), store), expected, tally)
+    let (after, answer) = fenced(store, 0xA5, |store| raw::test(plan.lent(), store));
+    assert!(after == store, "the test wrote to the store");
+    agreed("test", answer, expected, tally)
 }
 
 /// Files in `store`, and leaves there what both made of it. An accepted filing
@@ -121,9 +123,12 @@ pub fn file(
 pub fn coefficients(plan: &Owned, store: &[u8], beta: &mut Vec<u8>, tally: &mut Tally) -> u8 {
     let mut expected = beta.clone();
     let number = by_reference!(coefficients, plan, store, &mut expected);
-    let (after, answer) = fenced(beta, 0xA5, |beta| {
-        raw::coefficients(plan.lent(), store, beta)
+    let (store_after, (after, answer)) = fenced(store, 0xA5, |store| {
+        fenced(beta, 0xA5, |beta| {
+            raw::coefficients(plan.lent(), store, beta)
+        })
     });
+    assert!(store_after == store, "reading off wrote to the store");
     agreed("coefficients", answer, number, tally);
     assert_eq!(after, expected, "the coefficients");
     assert!(answer == 0 || after == *beta, "a refused β was written");
