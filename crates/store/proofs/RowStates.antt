@@ -1,7 +1,7 @@
 -- What the state of the store test knows, and that it knows it with one row more.
 --     Tops           the columns after q rows: column j is at most k exactly when each counted row is so there. All rows are counted while the column is
 --                    open, those below its diagonal once it is closed
---     Known          the columns, and whether each row taken is sound
+--     Known          what the state says is so: of the columns, and whether each row taken is sound
 --     known-next     one row more
 -- Assumes nothing.
 use mathlib.Core.Path.{_≡_, refl, sym, ap, _∙_}

@@ -6,7 +6,7 @@
 --                                of a closed column, of what lies below its diagonal
 --     stateOf reading tops       the state as the code keeps it, with the columns in a lent slice
 --     begun C                    before the first row
---     rowSound p q above row     row q is all zero, and what lies above its diagonal are residues; or it has a 1 on the diagonal and nothing above.
+--     rowSound p q above row     row q is all zero, with residues above its diagonal, or has a 1 on the diagonal and nothing above.
 --                                `above` is the largest byte above
 --     counted q tops row         the columns with row q counted; column q is closed
 --     took p s row               the state that comes out when s goes in with a row

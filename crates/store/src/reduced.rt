@@ -126,7 +126,9 @@ pub fn is_reduced(store: &[u8], c: usize, p: u8) -> bool
     requires { ⌜ length (now store) ≡ storeSize c ⌝ }
     ensures { λ r. ⌜ r ≡ isReduced p c (cells c (now (store .entry))) ⌝ }
 {
-    let mut tops = [0u8; Plan::COLUMNS + 1];
+    // One byte more than columns would do. With eight the array, as compiled, begins at a multiple of 16, and no store of 16 bytes crosses
+    // the end of a page.
+    let mut tops = [0u8; Plan::COLUMNS + 8];
     let width = c + 1;
     let reading = take_rows(&mut tops[..width], store, c, p);
     !reading.damaged(&tops[..width], c, p)

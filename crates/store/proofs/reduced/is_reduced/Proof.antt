@@ -28,7 +28,7 @@ slice-aggregate-take-rows c = sym (length-take-le (c .before .before .args .c + 
 take-rows-requires : tie.Need-take-rows-requires
 take-rows-requires c κs =
     let start = c .before .before in
-    (start .pre .0, (start .pre .1 .0, (start .pre .1 .1, zeros-front 1025 (start .args .c + 1) (omega arith))))
+    (start .pre .0, (start .pre .1 .0, (start .pre .1 .1, zeros-front 1032 (start .args .c + 1) (omega arith))))
 
 -- the columns after the last row, at the array's front
 places : (c : tie.After-take-rows) → length (c .take-rows .last .0) ≡ c .before .before .before .args .c + 1
