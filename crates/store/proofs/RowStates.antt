@@ -47,8 +47,8 @@ module _ (p C : ℕ) (S : ℕ → ℕ → ℕ) where
     abbrev q : ℕ
     q = s .row
 
-    all-zero : (allBelow 1 row ≡ true) ↔ ZeroRow C S q
-    all-zero = ((λ t j h. sym (place j h) ∙ omega (arith, residues-of 1 row (omega arith) t j)), (λ z. below-of 1 row (small z)))
+    zero-means : (allBelow 1 row ≡ true) ↔ ZeroRow C S q
+    zero-means = ((λ t j h. sym (place j h) ∙ omega (arith, residues-of 1 row (omega arith) t j)), (λ z. below-of 1 row (small z)))
       where
         small : ZeroRow C S q → Residues 1 row
         small z i = elim (decLt C i) [
@@ -73,7 +73,7 @@ module _ (p C : ℕ) (S : ℕ → ℕ → ℕ) where
         ⊎-map
         (λ z.
         let k : above ≤ p - 1 = omega (arith, ltb-true above p (z .1)) in
-        (all-zero .0 (z .0), λ i h. omega (arith, above-means (p - 1) .0 k i h)))
+        (zero-means .0 (z .0), λ i h. omega (arith, above-means (p - 1) .0 k i h)))
         (λ o.
         let t = both-true (eqb above 0) (eqb (at row q) 1) (o .1) in
         let k : above ≤ 0 = omega (arith, eqb-true above 0 (t .0)) in
@@ -86,10 +86,10 @@ module _ (p C : ℕ) (S : ℕ → ℕ → ℕ) where
         ⊎-elim
         (λ z.
         let k : above ≤ p - 1 = above-means (p - 1) .1 (λ i h. omega (arith, z .1 i h)) in
-        rw (all-zero .1 (z .0)) (lt-ltb above p (omega arith)))
+        rw (zero-means .1 (z .0)) (lt-ltb above p (omega arith)))
         (λ o.
         let k : above ≤ 0 = above-means 0 .1 (λ i h. omega (arith, o .1 i h)) in
-        rw (refute (allBelow 1 row) (λ t. omega (arith, all-zero .0 t q (le-of-lt l), o .0)))
+        rw (refute (allBelow 1 row) (λ t. omega (arith, zero-means .0 t q (le-of-lt l), o .0)))
         (both (eqb above 0) (eqb (at row q) 1) (eq-eqb above 0 (omega arith)) (eq-eqb (at row q) 1 (place q (le-of-lt l) ∙ o .0))))
         v
 

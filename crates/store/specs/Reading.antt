@@ -1,7 +1,8 @@
 -- 02, C-13: the store test "shall take the rows one by one in order: a state goes in with each row and comes out, and sees no row again.
 -- After the last row it says damaged exactly when condition 6, which is untouched, is met." The state, what a row makes of it, and what it
 -- says; that this is condition 6 (`isReduced` of `Elimination`) is the theorem `damaged-exactly` of proofs/. Stands on the row operations of `field`.
--- A column is open until its own row is taken. Then it is closed: from there on what lies below its diagonal is counted.
+-- A column is open until its own row is taken. Then it is closed: from there on what lies below its diagonal is counted. The right-hand sides,
+-- column C, have no row of their own and stay open.
 --     State                      what is known of the rows taken: how many they are, whether each was sound, and the largest byte of each column;
 --                                of a closed column, of what lies below its diagonal
 --     stateOf reading tops       the state as the code keeps it, with the columns in a lent slice
