@@ -283,9 +283,9 @@ uint8_t celery_run(CELERY_PLAN, const uint16_t *steps, size_t steps_len,
                    uint8_t *y, size_t *bootstraps);
 
 /*
- * The worst norm: the largest sum of squares of weights, each 0 to p-1, over
- * the link rows, the d rows and all t + 1 rows of beta. It is at most
- * 4,000,000.
+ * The worst norm: the largest sum of squares of weights over the link rows,
+ * the d rows and all t + 1 rows of beta. A weight w above (p-1)/2 counts as
+ * w - p, so p-1 as -1. The norm is at most 1,000,000.
  *
  * Lent:    beta, C bytes below p; norm.
  * Causes:  1 2 3 4 5.

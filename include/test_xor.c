@@ -123,7 +123,7 @@ static size_t beyond_28(size_t month, size_t leap)
 /* Files all entries, runs the program on each input, and lends what is refused. Answers 0, or prints the line at fault. */
 static int days_of_a_month(void)
 {
-    static const uint8_t off[DAYS_C] = {0, 0, 1, 1};
+    static const uint8_t off[DAYS_C] = {0, 0, 1, 1}, middle[DAYS_C] = {6, 7, 7, 6};
     /* Radices that are refused, each with so many of them and the answer. */
     static const struct {
         uint8_t radices[5];
@@ -146,7 +146,7 @@ static int days_of_a_month(void)
     uint8_t store[DAYS_STORE] = {0}, kept[DAYS_STORE] = {0};
     uint8_t row[DAYS_C] = {0}, beta[DAYS_C] = {0}, y = 99;
     uint16_t steps[DAYS_STEPS] = {0};
-    size_t written = 0, column = 999, bootstraps = 999, new_rows = 0, entry, i;
+    size_t written = 0, column = 999, bootstraps = 999, norm = 999, new_rows = 0, entry, i;
 
     CHECK(celery_check(DAYS) == CELERY_ACCEPTED);
     for (entry = 0; entry < ENTRIES; entry++) {
@@ -161,6 +161,11 @@ static int days_of_a_month(void)
     }
     CHECK(celery_coefficients(DAYS, store, sizeof store, beta, sizeof beta) == CELERY_ACCEPTED);
     CHECK(memcmp(beta, off, sizeof beta) == 0);
+    /* Of the weights of link 0, 11 counts as -2. As coefficients, 6 counts as itself and 7 as -6. */
+    CHECK(celery_worst_norm(DAYS, beta, sizeof beta, &norm) == CELERY_ACCEPTED);
+    CHECK(norm == 1 + 2 * 2);
+    CHECK(celery_worst_norm(DAYS, middle, sizeof middle, &norm) == CELERY_ACCEPTED);
+    CHECK(norm == 4 * 6 * 6);
     CHECK(celery_write(DAYS, beta, sizeof beta, steps, DAYS_STEPS, &written) == CELERY_ACCEPTED);
     CHECK(written == DAYS_STEPS);
 

@@ -1,8 +1,8 @@
 // The printed program: the worst norm, decimal numbers, and the listing.
 //
 // A host or a program calls `worst_norm`, which takes any numbers and bytes. Crates above call `print_listing`, which takes a checked
-// plan, and `print_refusal`. Stands on `program`, `plan`, `field` and `lists`. Renders 01, "Worst norm", and of "The filing program"
-// what it prints.
+// plan, and `print_refusal`. Stands on `program`, `plan`, `field` and `lists`. Renders 01, "Worst norm", with 02, C-14, and of "The
+// filing program" what it prints.
 mod decimal;
 mod norm;
 mod printing;

@@ -1,9 +1,9 @@
 // The worst norm of a plan's weights and coefficients.
 ghost use mathlib.Core.Path.{_≡_};
-ghost use Prim.Native.Nat.{_+_, _*_, _≤_, max};
+ghost use Prim.Native.Nat.{_+_, _*_, _≤_, _<_, max};
 ghost use lib.ListN.{length};
 ghost use Rattle.lists.specs.Places.{largest};
-ghost use Rattle.field.specs.Rows.{dot};
+ghost use Rattle.field.specs.Residues.{Residues};
 ghost use Rattle.plan.specs.Numbers.{Within, variables, columns};
 ghost use Rattle.plan.specs.Parts.{linkStart, given};
 ghost use Rattle.listing.specs.Norm as specs;
@@ -18,15 +18,28 @@ pub enum Normed {
     Refused(u8),
 }
 
-// The sum of the squares of a row.
-fn squares(ws: &[u8]) -> usize
-    requires { ⌜ length (now ws) ≤ 64 ⌝ }
-    ensures { λ r. ⌜ r ≡ dot (now (ws .entry)) (now (ws .entry)) (length (now (ws .entry))) ⌝ }
+// A weight by its short side: w - p, as a weight above the middle counts, has the square of p - w.
+fn short_side(w: u8, p: u8) -> u8
+    requires { ⌜ w < p ⌝ }
+    ensures { λ r. ⌜ r ≡ specs.short p w ⌝ }
+{
+    if (p - 1) / 2 < w {
+        return p - w;
+    }
+    w
+}
+
+// The sum of the squares of the n weights from `begin` on, each by its short side.
+fn squares(ws: &[u8], begin: usize, n: usize, p: u8) -> usize
+    requires { ⌜ n ≤ 64 ⌝ }
+    requires { ⌜ begin + n ≤ length (now ws) ⌝ }
+    requires { ⌜ Residues p (now ws) ⌝ }
+    ensures { λ r. ⌜ r ≡ specs.squares p (now (ws .entry)) begin n ⌝ }
 {
     let mut total: usize = 0;
-    let mut j = 0;
-    while j < ws.len() {
-        let w = ws[j] as usize;
+    let mut j: usize = 0;
+    while j < n {
+        let w = short_side(ws[begin + j], p) as usize;
         total += w * w;
         j += 1;
     }
@@ -46,35 +59,34 @@ fn larger(a: usize, b: usize) -> usize
 // The largest over the link rows: `begin` is where link k's weights begin.
 fn links_norm(plan: Plan, weights: &[u8]) -> usize
     requires { ⌜ Within plan ⌝ }
-    requires { ⌜ length (now weights) ≡ linkStart plan (plan .m) ⌝ }
-    ensures { λ r. ⌜ r ≡ largest (λ k. specs.squares (now (weights .entry)) (linkStart plan k) (plan .n + k)) (plan .m) ⌝ }
+    requires { ⌜ (length (now weights) ≡ linkStart plan (plan .m)) × (Residues (plan .p) (now weights)) ⌝ }
+    ensures { λ r. ⌜ r ≡ largest (λ k. specs.squares (plan .p) (now (weights .entry)) (linkStart plan k) (plan .n + k)) (plan .m) ⌝ }
 {
     let n = plan.n;
     let mut top: usize = 0;
     let mut begin: usize = 0;
     let mut k: usize = 0;
     while k < plan.m {
-        let end = begin + (n + k);
-        top = larger(top, squares(&weights[begin..end]));
-        begin = end;
+        let length = n + k;
+        top = larger(top, squares(weights, begin, length, plan.p));
+        begin += length;
         k += 1;
     }
     top
 }
 
 // The largest over the first `count` rows of l weights each.
-fn rows_norm(ws: &[u8], l: usize, count: usize) -> usize
+fn rows_norm(ws: &[u8], l: usize, count: usize, p: u8) -> usize
     requires { ⌜ l ≤ 64 ⌝ }
-    requires { ⌜ count * l ≤ length (now ws) ⌝ }
-    ensures { λ r. ⌜ r ≡ largest (λ b. specs.squares (now (ws .entry)) (b * l) l) count ⌝ }
+    requires { ⌜ (count * l ≤ length (now ws)) × (Residues p (now ws)) ⌝ }
+    ensures { λ r. ⌜ r ≡ largest (λ b. specs.squares p (now (ws .entry)) (b * l) l) count ⌝ }
 {
     let mut top: usize = 0;
     let mut begin: usize = 0;
     let mut b: usize = 0;
     while b < count {
-        let end = begin + l;
-        top = larger(top, squares(&ws[begin..end]));
-        begin = end;
+        top = larger(top, squares(ws, begin, l, p));
+        begin += l;
         b += 1;
     }
     top
@@ -83,15 +95,15 @@ fn rows_norm(ws: &[u8], l: usize, count: usize) -> usize
 // The worst norm of a checked plan with its parts and β as lent.
 pub fn worst(plan: Plan, weights: &[u8], d: &[u8], beta: &[u8]) -> usize
     requires { ⌜ Within plan ⌝ }
-    requires { ⌜ length (now weights) ≡ linkStart plan (plan .m) ⌝ }
-    requires { ⌜ length (now d) ≡ plan .t * variables plan ⌝ }
-    requires { ⌜ length (now beta) ≡ columns plan ⌝ }
+    requires { ⌜ (length (now weights) ≡ linkStart plan (plan .m)) × (Residues (plan .p) (now weights)) ⌝ }
+    requires { ⌜ (length (now d) ≡ plan .t * variables plan) × (Residues (plan .p) (now d)) ⌝ }
+    requires { ⌜ (length (now beta) ≡ columns plan) × (Residues (plan .p) (now beta)) ⌝ }
     ensures { λ r. ⌜ r ≡ specs.worst plan (now (weights .entry)) (now (d .entry)) (now (beta .entry)) ⌝ }
 {
     let l = plan.variables();
     let links = links_norm(plan, weights);
-    let products = rows_norm(d, l, plan.t);
-    let last = rows_norm(beta, l, plan.t + 1);
+    let products = rows_norm(d, l, plan.t, plan.p);
+    let last = rows_norm(beta, l, plan.t + 1, plan.p);
     larger(links, larger(products, last))
 }
 

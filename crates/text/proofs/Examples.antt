@@ -1,5 +1,5 @@
--- The meaning of texts: 01's XOR example with its radices, byte for byte, and a refusal of each kind. One collected table of facts about the
--- definition; each computes. A quoted text stands for its bytes, `\n` for the LF. Assumes nothing.
+-- The meaning of texts: 01's XOR example with its radices, byte for byte, AND under its plan, and a refusal of each kind. One collected table of
+-- facts about the definition; each computes. A quoted text stands for its bytes, `\n` for the LF. Assumes nothing.
 use mathlib.Core.Path.{_≡_, refl}
 use mathlib.Core.List.{List, [], _∷_}
 use Prim.Native.Nat.{ℕ}
@@ -14,7 +14,7 @@ use Rattle.plan.specs.Rows.{digit, link, chain, values, weighted, rowPlace, row
 use Rattle.store.specs.Elimination.{isZeroRow, isPivot, isReduced, residual, lead, normal, inserted, outcome, after, rowStart, flat}
 use Rattle.store.specs.Calls.{filed, coefficients}
 use Rattle.program.specs.Layout.{adds, linkSteps, productSteps, layout, stepCount}
-use Rattle.listing.specs.Norm.{squares, worst}
+use Rattle.listing.specs.Norm.{short, squares, worst}
 use Rattle.listing.specs.Decimal.{digitsOf, decimal, spaced, line}
 use Rattle.listing.specs.Printed.{listing, refused}
 use Rattle.lines.specs.Lines.{cutAt, allDigits, isNumeral, numberFrom, allNumerals, asks, numbers, same}
@@ -28,6 +28,8 @@ bytes (c ∷ˢ s) = code c ∷ bytes s
 pub record Meanings : Type 0 where
   -- "The XOR text gains the line `2 2` and prints the same"
   pub xor : meaning (bytes "p s n links products\n3 2 2 0 1\n2 2\n1 1\nentry value\n0 0\n1 1\n2 1\n3 0\n") ≡ bytes "bootstraps steps worst\n2 19 2\nkind to from by\n0 6 0 0\n0 2 0 0\n1 2 0 0\n1 2 1 1\n0 3 0 0\n1 3 0 1\n1 3 1 1\n0 4 0 0\n1 4 2 1\n1 4 3 1\n0 5 0 0\n1 5 2 1\n1 5 3 2\n2 4 4 0\n2 5 5 1\n1 6 4 1\n1 6 5 1\n1 6 0 1\n1 6 1 0\n"
+  -- AND under the same plan: its coefficient 2 counts as -1 in the figures, and its step prints it as 2
+  pub and : meaning (bytes "p s n links products\n3 2 2 0 1\n2 2\n1 1\nentry value\n0 0\n1 0\n2 0\n3 1\n") ≡ bytes "bootstraps steps worst\n2 19 2\nkind to from by\n0 6 0 0\n0 2 0 0\n1 2 0 1\n1 2 1 0\n0 3 0 0\n1 3 0 1\n1 3 1 1\n0 4 0 0\n1 4 2 1\n1 4 3 1\n0 5 0 0\n1 5 2 1\n1 5 3 2\n2 4 4 0\n2 5 5 1\n1 6 4 1\n1 6 5 1\n1 6 0 2\n1 6 1 0\n"
   -- an empty text: line 1 is missing
   pub empty-text : meaning [] ≡ bytes "refusal line\n13 1\n"
   -- the values line is missing
@@ -81,10 +83,11 @@ pub record Meanings : Type 0 where
   pub blank-line : meaning (bytes "p s n links products\n3 2 2 0 1\n2 2\n1 1\nentry value\n\n") ≡ bytes "refusal line\n13 6\n"
 
 pub meanings : Meanings
-unfolding sum tab every joined isPrime oddPrime inverse product badRadix radicesFit outOfRange lengthsFit valuesFit storeSize callCauses digit link chain values weighted rowPlace row isZeroRow isPivot isReduced residual lead normal inserted outcome after rowStart flat filed coefficients adds linkSteps productSteps layout stepCount largest squares worst digitsOf decimal spaced line listing refused cutAt allDigits isNumeral numberFrom allNumerals asks numbers same judged ended from meaning
+unfolding sum tab every joined isPrime oddPrime inverse product badRadix radicesFit outOfRange lengthsFit valuesFit storeSize callCauses digit link chain values weighted rowPlace row isZeroRow isPivot isReduced residual lead normal inserted outcome after rowStart flat filed coefficients adds linkSteps productSteps layout stepCount largest short squares worst digitsOf decimal spaced line listing refused cutAt allDigits isNumeral numberFrom allNumerals asks numbers same judged ended from meaning
 meanings =
     record {
       xor = refl;
+      and = refl;
       empty-text = refl;
       values-missing = refl;
       cr-lf = refl;

@@ -230,7 +230,19 @@ impl Plan {
     }
 
     /// The largest sum of squares of weights, over the link rows, the d rows
-    /// and the rows of β.
+    /// and the rows of β; at most 1,000,000.
+    ///
+    /// A weight w above (p - 1) / 2 counts as w - p, so that p - 1 counts as
+    /// -1. The program's steps have it as it is.
+    ///
+    /// ```
+    /// use celerycrag::{Plan, Shape};
+    /// let shape = Shape { p: 5, s: 2, n: 3, m: 0, t: 0 };
+    /// let plan = Plan::with_radix(shape, vec![], vec![], vec![])?;
+    /// // 2, and 3 as -2, and 4 as -1.
+    /// assert_eq!(plan.worst_norm(&[2, 3, 4])?, 4 + 4 + 1);
+    /// # Ok::<(), celerycrag::Refusal>(())
+    /// ```
     ///
     /// # Errors
     /// Cause 4 where β has not C coefficients, 5 where one is not below p.

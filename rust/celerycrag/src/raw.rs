@@ -165,7 +165,9 @@ pub fn run(plan: Lent, steps: &[u16], digits: &[u8], y: &mut u8, bootstraps: &mu
     )
 }
 
-/// The worst norm of the plan and β goes to `norm`. Causes 1 2 3 4 5.
+/// The worst norm of the plan and β goes to `norm`: the largest sum of squares
+/// of weights in a row, where a weight w above (p - 1) / 2 counts as w - p; at
+/// most 1,000,000. Causes 1 2 3 4 5.
 pub fn worst_norm(plan: Lent, beta: &[u8], norm: &mut usize) -> u8 {
     call!(celery_worst_norm, plan, beta.as_ptr(), beta.len(), norm)
 }

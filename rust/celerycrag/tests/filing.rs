@@ -198,6 +198,23 @@ fn the_largest_shapes() {
     });
 }
 
+/// The worst norm with seven digits, 64 weights of 125 or 126 in d, and with
+/// weights of p - 1, which count as -1 and are printed as they are.
+#[test]
+fn worst_norms_up_to_the_largest() {
+    let mut tally = Tally::default();
+    for (weight, worst) in [(125, 1_000_000), (126, 1_000_000), (250, 64)] {
+        let mut plan = Owned::zeros([251, 2, 1, 63, 1]);
+        plan.d.fill(weight);
+        let printed = agree(&[&text(&plan, &[])], &mut tally);
+        let printed = String::from_utf8(printed).expect("a text");
+        let figures = format!("bootstraps steps worst\n65 2347 {worst}\n");
+        assert!(printed.starts_with(&figures), "{weight}");
+        // v is register 65, and gains every variable by the weight in d.
+        assert!(printed.contains(&format!("\n1 65 63 {weight}\n")));
+    }
+}
+
 #[test]
 fn every_beginning_and_every_missing_byte() {
     let xor = text(&Owned::xor(), &[(0, 0), (1, 1), (2, 1), (3, 0)]);

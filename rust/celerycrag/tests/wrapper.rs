@@ -191,9 +191,42 @@ fn rows_digits_and_tables() {
     assert_eq!(plan.table(2), Ok(vec![0, 1, 4, 4, 1]));
     assert_eq!(plan.table(3), Err(Refusal::STEPS));
     assert_eq!(plan.table(u16::MAX), Err(Refusal::STEPS));
-    assert_eq!(plan.worst_norm(&[0; 6]), Ok(17));
+}
+
+#[test]
+fn worst_norms_count_weights_by_their_short_side() {
+    // The link's weights are 1 and 3, which counts as -2; d is 1 0 4.
+    let plan = linked();
+    assert_eq!(plan.worst_norm(&[0; 6]), Ok(5));
+    assert_eq!(plan.worst_norm(&[4; 6]), Ok(5));
+    assert_eq!(plan.worst_norm(&[2, 3, 4, 4, 4, 4]), Ok(9));
+    assert_eq!(plan.worst_norm(&[4, 4, 4, 2, 3, 3]), Ok(12));
     assert_eq!(plan.worst_norm(&[0; 5]), Err(Refusal::LENGTH));
     assert_eq!(plan.worst_norm(&[5; 6]), Err(Refusal::NO_RESIDUE));
+    assert_eq!(xor().worst_norm(&[0, 1, 1, 0]), Ok(2));
+    assert_eq!(xor().worst_norm(&[2; 4]), Ok(2));
+
+    let plan = bare(251, 2, 12).expect("a plan");
+    for (weight, square) in [(1, 1), (125, 15_625), (126, 15_625), (250, 1)] {
+        assert_eq!(plan.worst_norm(&[weight; 12]), Ok(12 * square));
+    }
+}
+
+/// 64 weights of 125, or of 126, which counts as -125.
+#[test]
+fn the_largest_worst_norm() {
+    let shape = Shape {
+        p: 251,
+        s: 2,
+        n: 1,
+        m: 63,
+        t: 15,
+    };
+    let (weights, tables) = (vec![0; 2_016], vec![0; 63 * 251]);
+    let plan = Plan::with_radix(shape, weights, tables, vec![0; 960]).expect("a plan");
+    for (weight, norm) in [(125, 1_000_000), (126, 1_000_000), (250, 64)] {
+        assert_eq!(plan.worst_norm(&[weight; 1_024]), Ok(norm));
+    }
 }
 
 #[test]

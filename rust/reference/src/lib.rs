@@ -1,5 +1,5 @@
 //! A naive twin of the table library: document 01, with the requests of 02 that
-//! have landed (C-11, C-12; C-13 changes no answer), in plain Rust.
+//! have landed (C-11, C-12, C-14; C-13 changes no answer), in plain Rust.
 //!
 //! It is written from the papers alone and shares no line with the library.
 //! Tests and benchmarks compare the two, so every function here takes the

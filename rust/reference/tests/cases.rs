@@ -187,7 +187,8 @@ fn a_row_by_hand() {
 
 #[test]
 fn worst_norm_looks_at_every_row() {
-    let mut plan = Owned::zeros(7, 2, 1, 1, 1);
+    // No weight here is above 6, the middle of 13; larger ones are in tests/norm.rs.
+    let mut plan = Owned::zeros(13, 2, 1, 1, 1);
     assert_eq!(plan.worst(&[0, 0, 0, 0]), Ok(0));
     assert_eq!(plan.worst(&[1, 2, 0, 3]), Ok(9));
     assert_eq!(plan.worst(&[3, 1, 0, 3]), Ok(10));
@@ -196,7 +197,7 @@ fn worst_norm_looks_at_every_row() {
     plan.weights = vec![6];
     assert_eq!(plan.worst(&[3, 1, 0, 3]), Ok(36));
     // Table values are no weights.
-    plan.tables = vec![6; 7];
+    plan.tables = vec![6; 13];
     assert_eq!(plan.worst(&[3, 1, 0, 3]), Ok(36));
 }
 

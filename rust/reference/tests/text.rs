@@ -419,19 +419,43 @@ fn reading_27_other_bytes() {
     refused(then(HEADER, "0 \u{661}"), 13, 6);
 }
 
+/// A text of p = 251 with 64 variables and one product, whose d row has this
+/// weight 64 times; all other numbers are 0.
+fn weights_64_times(weight: &str) -> String {
+    let line = |number: &str, count: usize| vec![number; count].join(" ") + "\n";
+    let mut text = String::from("p s n links products\n251 2 1 63 1\n2\n");
+    for k in 0..63 {
+        text += &(line("0", 1 + k) + &line("0", 251));
+    }
+    text + &line(weight, 64) + "entry value\n"
+}
+
 #[test]
 fn reading_28_worst_norms() {
     let bare = "p s n links products\n7 6 1 0 0\n6\nentry value\n";
     assert!(prints(bare).starts_with("bootstraps steps worst\n0 2 0\n"));
-    assert!(prints(then(bare, "1 5")).starts_with("bootstraps steps worst\n0 2 25\n"));
-    // 64 weights of 250: seven digits.
-    let mut text = String::from("p s n links products\n251 2 1 63 1\n2\n");
-    for k in 0..63 {
-        text += &(vec!["0"; 1 + k].join(" ") + "\n");
-        text += &(vec!["0"; 251].join(" ") + "\n");
+    assert!(prints(then(bare, "1 3")).starts_with("bootstraps steps worst\n0 2 9\n"));
+    // 02, C-14: 5 is above 3, the middle of 7, and counts as -2.
+    assert!(prints(then(bare, "1 5")).starts_with("bootstraps steps worst\n0 2 4\n"));
+    // 64 times 125 squared, the most there is: seven digits. 126 counts as -125,
+    // 250 as -1.
+    for (weight, worst) in [("125", 1_000_000), ("126", 1_000_000), ("250", 64)] {
+        let figures = format!("bootstraps steps worst\n65 2347 {worst}\n");
+        assert!(prints(weights_64_times(weight)).starts_with(&figures));
     }
-    text += &(vec!["250"; 64].join(" ") + "\nentry value\n");
-    assert!(prints(text).starts_with("bootstraps steps worst\n65 2347 4000000\n"));
+}
+
+/// 02, C-14: where a plan says p-1, the steps say p-1 too, and only `worst`
+/// counts it as -1. Here p is 7; the link's weight, both of d and the first
+/// coefficient are 6.
+#[test]
+fn steps_print_p_minus_1_as_it_is() {
+    let text = "p s n links products\n7 3 1 1 1\n2\n6\n0 0 0 0 0 0 1\n6 6\nentry value\n1 2\n";
+    let listing = "bootstraps steps worst\n3 22 2\nkind to from by\n0 1 0 0\n1 1 0 6\n2 1 1 0\n\
+        0 6 0 0\n0 2 0 0\n1 2 0 6\n1 2 1 0\n0 3 0 0\n1 3 0 6\n1 3 1 6\n0 4 0 0\n1 4 2 1\n\
+        1 4 3 1\n0 5 0 0\n1 5 2 1\n1 5 3 6\n2 4 4 1\n2 5 5 2\n1 6 4 1\n1 6 5 1\n1 6 0 0\n\
+        1 6 1 0\n";
+    assert_eq!(prints(text), listing);
 }
 
 #[test]

@@ -19,7 +19,7 @@ links-norm-requires c κs = search needs
 rows-norm-requires : tie.Need-rows-norm-requires
 rows-norm-requires c κs =
     let pre = start (c .before) .pre in
-    (omega (arith, c .before .variables .ensures, pre .0 .variable-limit), rw (c .before .variables .ensures) (le-of-eq (sym (pre .1 .1 .0))))
+    (omega (arith, c .before .variables .ensures, pre .0 .variable-limit), (rw (c .before .variables .ensures) (le-of-eq (sym (pre .1 .1 .0 .0))), pre .1 .1 .0 .1))
 
 add-rows-norm : tie.Need-add-rows-norm
 add-rows-norm c = search needs
@@ -28,7 +28,7 @@ rows-norm-requires-2 : tie.Need-rows-norm-requires-2
 rows-norm-requires-2 c κs =
     let r = c .before .before .before in
     let pre = start r .pre in
-    (omega (arith, r .variables .ensures, pre .0 .variable-limit), rw (r .variables .ensures) (le-of-eq (sym (pre .1 .1 .1))))
+    (omega (arith, r .variables .ensures, pre .0 .variable-limit), (rw (r .variables .ensures) (le-of-eq (sym (pre .1 .1 .1 .0))), pre .1 .1 .1 .1))
 
 larger-requires : tie.Need-larger-requires
 larger-requires c κs = search needs

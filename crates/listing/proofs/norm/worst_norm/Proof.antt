@@ -4,6 +4,7 @@ use mathlib.Core.List.{[], _∷_}
 use native.Mathlib.Omega.{arith}
 use lib.ListN.{length}
 use borrow.Author.Tests.{eqb-true, not-true, not-false}
+use Rattle.field.proofs.Ranges.{residues-of}
 use Rattle.plan.specs.Causes.{gives}
 use Rattle.plan.specs.Numbers.{answerOf}
 use Rattle.plan.specs.Parts.{given}
@@ -44,8 +45,11 @@ returns c =
 
 worst-requires : tie.Need-worst-requires
 worst-requires c κs =
-    let a = admitted (c .before .before .before) in
-    (a .within, (a .lent .weights-length, (a .lent .products-length, eqb-true _ _ (a .own-fits))))
+    let r = c .before .before .before in
+    let a = admitted r in
+    let below = sym (c .before .all-below .ensures) ∙ not-false _ (c .if1 .left) in
+    let residues = residues-of (r .plan .given .0 .0 .p) (start r .args .beta .now) (omega (arith, prime-low (a .within))) below in
+    (a .within, ((a .lent .weights-length, a .lent .weights-residues), ((a .lent .products-length, a .lent .products-residues), (eqb-true _ _ (a .own-fits), residues))))
 
 returns-2 : tie.Need-returns-2
 returns-2 c =
