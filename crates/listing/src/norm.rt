@@ -18,13 +18,14 @@ pub enum Normed {
     Refused(u8),
 }
 
-// A weight by its short side: w - p, as a weight above the middle counts, has the square of p - w.
+// A weight by its short side, the smaller of w and p - w. A weight above the middle counts as w - p, which has the square of p - w.
 fn short_side(w: u8, p: u8) -> u8
     requires { ⌜ w < p ⌝ }
     ensures { λ r. ⌜ r ≡ specs.short p w ⌝ }
 {
-    if (p - 1) / 2 < w {
-        return p - w;
+    let other = p - w;
+    if other < w {
+        return other;
     }
     w
 }
@@ -36,14 +37,14 @@ fn squares(ws: &[u8], begin: usize, n: usize, p: u8) -> usize
     requires { ⌜ Residues p (now ws) ⌝ }
     ensures { λ r. ⌜ r ≡ specs.squares p (now (ws .entry)) begin n ⌝ }
 {
-    let mut total: usize = 0;
+    let mut total: u32 = 0;
     let mut j: usize = 0;
     while j < n {
-        let w = short_side(ws[begin + j], p) as usize;
+        let w = short_side(ws[begin + j], p) as u32;
         total += w * w;
         j += 1;
     }
-    total
+    total as usize
 }
 
 // The larger of two numbers.

@@ -1,5 +1,7 @@
--- `listing::norm::short_side` meets its contract: its test is that of `short`. Assumes nothing.
+-- `listing::norm::short_side` meets its contract: p - w is below w only above the middle, and there the two are equal where it is not.
+-- Assumes nothing.
 use Prim.Native.Nat.{_-_, _/_}
+use native.Mathlib.Decide.{decLt}
 use native.Mathlib.Omega.{arith}
 use borrow.Author.Needs.{needs}
 use borrow.Author.Tests.{lt-ltb, le-ltb}
@@ -7,19 +9,23 @@ use Rattle.listing.specs.Norm.{short}
 use Rattle.listing.proofs.norm.short_side.Statement.{statement}
 use Rattle.listing.proofs.norm.short_side.Tie as tie
 
-sub-if1 : tie.Need-sub-if1
-sub-if1 c = search needs
-
-sub-result : tie.Need-sub-result
-sub-result c = search needs
+sub-other : tie.Need-sub-other
+sub-other c = search needs
 
 returns : tie.Need-returns
 unfolding short
-returns c = rw (lt-ltb ((c .before .args .p - 1) / 2) (c .before .args .w) (omega (arith, c .if1 .taken)))
+returns c =
+    let s = c .before .args in
+    rw (lt-ltb ((s .p - 1) / 2) (s .w) (omega (arith, c .if1 .taken)))
 
 returns-2 : tie.Need-returns-2
 unfolding short
-returns-2 c = rw (le-ltb ((c .before .args .p - 1) / 2) (c .before .args .w) (omega (arith, c .if1 .left)))
+returns-2 c =
+    let s = c .before .args in
+    elim (decLt ((s .p - 1) / 2) (s .w)) [
+      | yes above ↦ rw (lt-ltb ((s .p - 1) / 2) (s .w) above) (omega (arith, c .if1 .left))
+      | no below ↦ rw (le-ltb ((s .p - 1) / 2) (s .w) (omega arith))
+    ]
 
 pub short-side-spec : {M : Type 1} → statement M
-short-side-spec = tie.close (tie.spec sub-if1 sub-result returns returns-2)
+short-side-spec = tie.close (tie.spec sub-other returns returns-2)

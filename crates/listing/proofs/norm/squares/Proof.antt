@@ -71,6 +71,9 @@ loop-again c =
     let square = ap (λ (x : ℕ). x * x) (c .short-side .ensures) in
     (omega arith, omega (arith, next, square), omega (arith, square-small c))
 
+cast-result : tie.Need-cast-result Inv-loop μ-loop
+cast-result c = omega arith
+
 returns : tie.Need-returns Inv-loop μ-loop
 returns c =
     let r = c .before in
@@ -93,4 +96,5 @@ squares-spec =
     add-j
     loop-less
     loop-again
+    cast-result
     returns)
