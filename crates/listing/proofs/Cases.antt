@@ -15,7 +15,7 @@ pub record Norms : Type 0 where
   pub fifths : tab 5 (short 5) ≡ 0 ∷ 1 ∷ 2 ∷ 2 ∷ 1 ∷ []
   -- 4 + 4 + 1
   pub three-weights : squares 5 (2 ∷ 3 ∷ 4 ∷ []) 0 3 ≡ 9
-  -- the middle: 125 counts as itself, 126 as -125; and -1
+  -- 125 counts as itself, 126 as -125, 250 as -1
   pub below-middle : short 251 125 ≡ 125
   pub above-middle : short 251 126 ≡ 125
   pub minus-one : short 251 250 ≡ 1
@@ -24,7 +24,7 @@ pub record Norms : Type 0 where
   -- the largest norm there is: 64 weights of 125, or of -125
   pub widest : squares 251 (tab 64 (λ _. 125)) 0 64 ≡ 1000000
   pub widest-minus : squares 251 (tab 64 (λ _. 126)) 0 64 ≡ 1000000
-  -- the largest is the link row, the second d row, the last β row: each time the others have weights that are larger as written
+  -- the largest is the link row, the second d row, the last β row: each time another row is larger by its long side
   pub largest-link : worst F (2 ∷ []) (4 ∷ 1 ∷ 4 ∷ 0 ∷ []) (4 ∷ 4 ∷ 1 ∷ 4 ∷ 4 ∷ 0 ∷ []) ≡ 4
   pub largest-d : worst F (4 ∷ []) (4 ∷ 4 ∷ 2 ∷ 1 ∷ []) (4 ∷ 4 ∷ 1 ∷ 4 ∷ 4 ∷ 0 ∷ []) ≡ 5
   pub largest-β : worst F (4 ∷ []) (4 ∷ 4 ∷ 2 ∷ 1 ∷ []) (4 ∷ 4 ∷ 1 ∷ 4 ∷ 2 ∷ 2 ∷ []) ≡ 8

@@ -1,5 +1,5 @@
--- `listing::norm::short_side` meets its contract: p - w is below w only above the middle, and there the two are equal where it is not.
--- Assumes nothing.
+-- `listing::norm::short_side` meets its contract: where p - w is below w, w is above the middle; where it is not and w is above the middle
+-- all the same, the two are equal. Assumes nothing.
 use Prim.Native.Nat.{_-_, _/_}
 use native.Mathlib.Decide.{decLt}
 use native.Mathlib.Omega.{arith}
