@@ -50,8 +50,8 @@
  * std::vector in C++. Nothing is read or written through it.
  *
  * A single number that a call writes (column, residue, written, y, bootstraps,
- * norm) is lent by a pointer that is never null, also where the call is refused.
- * The number there must be aligned for its type and initialised.
+ * norm, line) is lent by a pointer that is never null, also where the call is
+ * refused. The number there must be aligned for its type and initialised.
  *
  * What a call writes must overlap nothing else that it is lent, and nothing
  * else may write to what it is lent until it returns. Parts that are only read
@@ -65,7 +65,9 @@
  * that it meets, in the order of the numbers; lengths of all parts (4) come
  * before values (5). The radices are judged as lent: a bad one (2) and a
  * product above 4,096 (3) come first also where there are not n of them (4). A
- * refused call leaves all that it was lent as it was, the single numbers too.
+ * refused call leaves all that it was lent as it was, the single numbers too,
+ * with one exception: a refusal by 13, or by 15 for a text, tells its line in
+ * line, the one number that a refusal writes; all else stays as it was.
  *
  *
  * COST
@@ -101,7 +103,10 @@ enum celery_refusal {
     CELERY_CONTRADICTION = 9, /* no beta reproduces the entry with all kept before */
     CELERY_NO_ROOM = 10,      /* the step slice is shorter than 4 times the step count */
     CELERY_STEPS = 11,        /* the step list is malformed */
-    CELERY_NO_DIGIT = 12      /* a digit is not below its own radix */
+    CELERY_NO_DIGIT = 12,     /* a digit is not below its own radix */
+    CELERY_MALFORMED = 13,    /* a line of the text is malformed or missing */
+    /* 14 is the filing program's alone: no call answers it. */
+    CELERY_NOT_WRITTEN = 15   /* no coefficients make the writer give exactly this */
 };
 
 /*
@@ -295,6 +300,56 @@ uint8_t celery_run(CELERY_PLAN, const uint16_t *steps, size_t steps_len,
  */
 uint8_t celery_worst_norm(CELERY_PLAN, const uint8_t *beta, size_t beta_len,
                           size_t *norm);
+
+/*
+ * Reads the coefficients back from a program that was kept without its table:
+ * the one beta for which celery_write gives exactly these numbers. A list that
+ * celery_write gives for no beta is refused with 15: so is one of another length,
+ * an empty one, and one that celery_run refuses with 11, which is not tested
+ * here. Tables, radices and s do not stand in a program, so that plans which
+ * differ in these alone read it alike.
+ *
+ * Lent:    steps, any number of numbers; beta, C bytes, whose old values do not
+ *          matter.
+ * Causes:  1 2 3 4 5, 15.
+ * Writes:  all of beta.
+ * Cost:    one pass over steps; then the program is written once more and
+ *          compared. About 40,000 bytes of stack.
+ */
+uint8_t celery_read_steps(CELERY_PLAN, const uint16_t *steps, size_t steps_len,
+                          uint8_t *beta, size_t beta_len);
+
+/*
+ * The same from a listing, as the filing program prints it for a plan and beta:
+ *
+ *   line 1   the names bootstraps steps worst
+ *   line 2   three figures: the bootstraps, the steps, the worst norm
+ *   line 3   the names kind to from by
+ *   the rest of the text, on each line the four numbers of a step
+ *
+ * The beta read is the one whose listing is exactly this text, byte by byte, the
+ * three figures too.
+ *
+ * First all lines are judged, in order: the first that is missing or malformed
+ * is refused with 13 and its number, from 1 on. A line has at most 1,024 bytes
+ * with its LF, which each must have, the last too. Numbers are decimal, zero as
+ * 0 and otherwise without a leading zero, one space between and nothing else on
+ * the line: figures of 1 to 7 digits, the numbers of a step of 1 to 5. Of an
+ * empty text line 1 is missing; no line of a step is. Then a text that is the
+ * listing of no beta is refused with 15 and line 1, whichever line is wrong; so
+ * is one that has a number above 65,535 in a step.
+ *
+ * Lent:    text, any bytes; beta, C bytes, whose old values do not matter; line.
+ * Causes:  1 2 3 4 5, 13, 15.
+ * Writes:  all of beta, where the call accepts. *line, where it refuses with 13
+ *          or 15; else it stays as it was.
+ * Cost:    one pass over the text to judge its lines, then what
+ *          celery_read_steps costs, and the text is compared line by line with
+ *          what would be printed, for which there is no buffer of its size.
+ *          About 80,000 bytes of stack.
+ */
+uint8_t celery_read_listing(CELERY_PLAN, const uint8_t *text, size_t text_len,
+                            uint8_t *beta, size_t beta_len, size_t *line);
 
 #ifdef __cplusplus
 }

@@ -3,9 +3,9 @@
  * interface: files the table, asks meanwhile which entries are settled, reads
  * the coefficients off, writes the program, runs it on all four inputs and
  * compares. The same for the days of a month under two radices, 12 and 2. Then
- * entries are settled to residues of s and more, and every part that can be
- * empty is lent as a null pointer. It is C and C++. Prints "ok", or the line at
- * fault.
+ * entries are settled to residues of s and more, every part that can be empty is
+ * lent as a null pointer, and the coefficients are read back from the program
+ * and from its listing. It is C and C++. Prints "ok", or the line at fault.
  */
 #include "celerycrag.h"
 
@@ -59,6 +59,15 @@ static const uint16_t program[STEPS] = {
     1, 6, 4, 1, 1, 6, 5, 1,
     1, 6, 0, 1, 1, 6, 1, 0,
 };
+
+/* The same as the filing program prints it. */
+static const char printed[] =
+    "bootstraps steps worst\n2 19 2\nkind to from by\n"
+    "0 6 0 0\n0 2 0 0\n1 2 0 0\n1 2 1 1\n0 3 0 0\n1 3 0 1\n1 3 1 1\n"
+    "0 4 0 0\n1 4 2 1\n1 4 3 1\n0 5 0 0\n1 5 2 1\n1 5 3 2\n"
+    "2 4 4 0\n2 5 5 1\n1 6 4 1\n1 6 5 1\n1 6 0 1\n1 6 1 0\n";
+/* Without the 0 that ends it in C. */
+enum { PRINTED = sizeof printed - 1 };
 
 /* A refused call leaves the single number as it was. */
 static int file(uint8_t *store, size_t entry, size_t value, int answer, size_t column)
@@ -232,6 +241,115 @@ static int settled_beyond_s(void)
     return 0;
 }
 
+/* An accepted call writes all of beta, a refused one nothing. */
+static int read_steps(const uint16_t *steps, size_t count, int answer, const uint8_t *beta)
+{
+    static const uint8_t old[C] = {255, 254, 253, 252};
+    uint8_t found[C] = {255, 254, 253, 252};
+    int given = celery_read_steps(XOR, steps, count, found, C);
+    return given == answer && memcmp(found, answer == CELERY_ACCEPTED ? beta : old, C) == 0;
+}
+
+/* The same of a text; only a refusal with 13 or 15 tells a line. */
+static int read_listing(const char *text, size_t count, int answer, size_t line, const uint8_t *beta)
+{
+    static const uint8_t old[C] = {255, 254, 253, 252};
+    uint8_t found[C] = {255, 254, 253, 252};
+    size_t told = 999;
+    int given = celery_read_listing(XOR, (const uint8_t *)text, count, found, C, &told);
+    if (answer == CELERY_ACCEPTED)
+        line = 999;
+    return given == answer && told == line && memcmp(found, answer == CELERY_ACCEPTED ? beta : old, C) == 0;
+}
+
+/*
+ * Reads XOR's program and its listing back, each of all 81 beta, and each with
+ * something wrong. Answers 0, or prints the line at fault.
+ */
+static int read_back(void)
+{
+    static const uint8_t off[C] = {0, 1, 1, 0}, other_d[CELERY_D_LEN(N, M, T)] = {1, 2};
+    /* Lines that are malformed in place of the figures, and figures that are wrong. */
+    static const char *const malformed[] = {
+        "2 19 2 ", "2 19  2", "02 19 2", "2 19", "2 19 2 0", "2 19 2\r", "2 19 10000000", "",
+    };
+    static const char *const wrong[] = {"3 19 2", "1 19 2", "2 20 2", "2 18 2", "2 19 3", "2 19 1", "2 19 9999999"};
+    uint8_t beta[C] = {0};
+    uint16_t steps[STEPS + 4] = {0};
+    char text[PRINTED + 64];
+    size_t line = 999, written = 0, number, i;
+
+    CHECK(read_steps(program, STEPS, CELERY_ACCEPTED, off));
+    CHECK(read_listing(printed, PRINTED, CELERY_ACCEPTED, 0, off));
+
+    /* Every beta comes back, and with a number changed elsewhere none does. */
+    for (number = 0; number < 81; number++) {
+        size_t rest = number;
+        for (i = 0; i < C; i++, rest /= P)
+            beta[i] = (uint8_t)(rest % P);
+        CHECK(celery_write(XOR, beta, C, steps, STEPS, &written) == CELERY_ACCEPTED);
+        CHECK(read_steps(steps, written, CELERY_ACCEPTED, beta));
+        steps[4 * 5 + 3] = 2; /* a weight of d */
+        CHECK(read_steps(steps, written, CELERY_NOT_WRITTEN, NULL));
+    }
+
+    /* Other lengths, an empty list, and a coefficient of p, which celery_run would refuse with 11. */
+    memcpy(steps, program, sizeof program);
+    for (i = 0; i < STEPS; i++)
+        CHECK(read_steps(steps, i, CELERY_NOT_WRITTEN, NULL));
+    for (i = STEPS + 1; i <= STEPS + 4; i++)
+        CHECK(read_steps(steps, i, CELERY_NOT_WRITTEN, NULL));
+    CHECK(read_steps(NULL, 0, CELERY_NOT_WRITTEN, NULL));
+    steps[STEPS - 1] = P;
+    CHECK(read_steps(steps, STEPS, CELERY_NOT_WRITTEN, NULL));
+
+    /* Every listing that ends early: within a line, or before line 4. */
+    for (i = 0, number = 0; i < PRINTED; i++) {
+        int malformed_here = number < 3 || (i > 0 && printed[i - 1] != '\n');
+        CHECK(read_listing(printed, i, malformed_here ? CELERY_MALFORMED : CELERY_NOT_WRITTEN,
+                           malformed_here ? number + 1 : 1, NULL));
+        number += printed[i] == '\n';
+    }
+    CHECK(number == 22);
+    CHECK(read_listing(NULL, 0, CELERY_MALFORMED, 1, NULL));
+    /* The 0 that ends it in C is no byte of a listing. */
+    CHECK(read_listing(printed, sizeof printed, CELERY_MALFORMED, 23, NULL));
+
+    for (i = 0; i < sizeof malformed / sizeof *malformed; i++) {
+        number = (size_t)snprintf(text, sizeof text, "%.23s%s%s", printed, malformed[i], printed + 29);
+        CHECK(read_listing(text, number, CELERY_MALFORMED, 2, NULL));
+    }
+    for (i = 0; i < sizeof wrong / sizeof *wrong; i++) {
+        number = (size_t)snprintf(text, sizeof text, "%.23s%s%s", printed, wrong[i], printed + 29);
+        CHECK(read_listing(text, number, CELERY_NOT_WRITTEN, 1, NULL));
+        /* 13 before 15 */
+        number += (size_t)snprintf(text + number, sizeof text - number, "0 0 0 x\n");
+        CHECK(read_listing(text, number, CELERY_MALFORMED, 23, NULL));
+    }
+    /* 65,536 is a number of five digits, and none of a step. */
+    number = (size_t)snprintf(text, sizeof text, "%.*s65536\n", (int)PRINTED - 2, printed);
+    CHECK(read_listing(text, number, CELERY_NOT_WRITTEN, 1, NULL));
+    number = (size_t)snprintf(text, sizeof text, "%.*s100000\n", (int)PRINTED - 2, printed);
+    CHECK(read_listing(text, number, CELERY_MALFORMED, 22, NULL));
+
+    /* The length of beta comes first, and tells no line; so does the plan. */
+    CHECK(celery_read_steps(XOR, program, STEPS, beta, C - 1) == CELERY_LENGTH);
+    CHECK(celery_read_steps(XOR, NULL, 0, NULL, 0) == CELERY_LENGTH);
+    CHECK(celery_read_listing(XOR, NULL, 0, beta, C - 1, &line) == CELERY_LENGTH);
+    CHECK(celery_read_listing(XOR, NULL, 0, NULL, 0, &line) == CELERY_LENGTH);
+    CHECK(celery_read_listing(9, S, N, M, T, BITS, NONE, NONE, d, sizeof d, NULL, 0, beta, C, &line) == CELERY_NO_PRIME);
+    CHECK(line == 999);
+
+    /* Under another row of d neither is right. */
+    CHECK(celery_read_steps(P, S, N, M, T, BITS, NONE, NONE, other_d, sizeof other_d, program, STEPS, beta, C)
+          == CELERY_NOT_WRITTEN);
+    CHECK(celery_read_listing(P, S, N, M, T, BITS, NONE, NONE, other_d, sizeof other_d, (const uint8_t *)printed,
+                              PRINTED, beta, C, &line)
+          == CELERY_NOT_WRITTEN);
+    CHECK(line == 1);
+    return 0;
+}
+
 /*
  * Empty parts as null pointers: those of a plan without links and products, an
  * empty list of steps, and any part of a call that is refused for its length.
@@ -357,7 +475,7 @@ int main(void)
     CHECK(settle(store, 0, CELERY_DAMAGED, 0, 0));
     CHECK(settle(store, 4, CELERY_DAMAGED, 0, 0)); /* 6 before 7 */
 
-    if (days_of_a_month() != 0 || settled_beyond_s() != 0 || empty_parts() != 0)
+    if (days_of_a_month() != 0 || settled_beyond_s() != 0 || empty_parts() != 0 || read_back() != 0)
         return 1;
 
     puts("ok");

@@ -1,4 +1,4 @@
-// Each call with its answer, and after it every byte of a part that it was lent to write. A call k is one of 10 to 21, and `held` is as main.rt says.
+// Each call with its answer, and after it every byte of a part that it was lent to write. A call k is one of 10 to 23, and `held` is as main.rt says.
 use crate::parts::front;
 use crate::parts::lent;
 use crate::parts::lent_steps;
@@ -324,6 +324,69 @@ fn norm(held: &[usize; 17], radices: &[u8], weights: &[u8], tables: &[u8], d: &[
     }
 }
 
+// The coefficients from the steps.
+fn read_steps(
+    held: &[usize; 17],
+    radices: &[u8],
+    weights: &[u8],
+    tables: &[u8],
+    d: &[u8],
+    steps: &[u16],
+    beta: &mut [u8],
+) {
+    let answer = readback::read_steps(
+        held[0],
+        held[1],
+        held[2],
+        held[3],
+        held[4],
+        radices,
+        weights,
+        tables,
+        d,
+        steps,
+        beta,
+    );
+    say(b"number", answer as usize);
+    bytes(b"= beta", beta);
+}
+
+// The coefficients from the text.
+fn read_listing(
+    held: &[usize; 17],
+    radices: &[u8],
+    weights: &[u8],
+    tables: &[u8],
+    d: &[u8],
+    text: &[u8],
+    beta: &mut [u8],
+) {
+    let answer = readback::read_listing(
+        held[0],
+        held[1],
+        held[2],
+        held[3],
+        held[4],
+        radices,
+        weights,
+        tables,
+        d,
+        text,
+        beta,
+    );
+    match answer {
+        readback::Reread::Read => {
+            io::write_all(1, b"= read\n");
+        }
+        readback::Reread::Refused(k) => say(b"refused", k as usize),
+        readback::Reread::RefusedAt(k, line) => {
+            say(b"refused", k as usize);
+            say(b"line", line);
+        }
+    }
+    bytes(b"= beta", beta);
+}
+
 // How many bytes from `begin` on are not 9.
 fn changed(out: &[u8], begin: usize) -> usize {
     let mut count: usize = 0;
@@ -438,4 +501,40 @@ pub fn with_program(
             lent_steps(steps, held[5]),
         ),
     }
+}
+
+// The calls 21 and 22, which read a program back. After the second the text is empty.
+pub fn with_readback(
+    k: usize,
+    held: &mut [usize; 17],
+    parts: &[[u8; 2048]; 6],
+    beta: &mut [u8],
+    steps: &mut [u16],
+) {
+    let radices = front(&parts[1], held[9]);
+    let weights = front(&parts[2], held[10]);
+    let tables = front(&parts[3], held[11]);
+    let d = front(&parts[4], held[12]);
+    if k == 21 {
+        read_steps(
+            held,
+            radices,
+            weights,
+            tables,
+            d,
+            lent_steps(steps, held[5]),
+            lent(beta, held[16]),
+        );
+        return;
+    }
+    read_listing(
+        held,
+        radices,
+        weights,
+        tables,
+        d,
+        front(&parts[0], held[8]),
+        lent(beta, held[16]),
+    );
+    held[8] = 0;
 }

@@ -7,6 +7,7 @@
 // tables, d and digits, which stand in `parts`, then row, store and beta, which calls may write.
 use crate::calls::print_text;
 use crate::calls::with_program;
+use crate::calls::with_readback;
 use crate::calls::with_store;
 use crate::lines::byte;
 use crate::lines::find;
@@ -63,24 +64,25 @@ fn set(
     }
 }
 
-// Prints a line, and reads a command: its numbers into `args`, how many they are into held[6]. Answers which it is, 22 for a line of a text,
-// and 23 for a name or a malformed line.
+// Prints a line, and reads a command: its numbers into `args`, how many they are into held[6]. Answers which it is, 24 for a line of a text,
+// and 25 for a name or a malformed line.
 fn read(line: &[u8], args: &mut [usize; 2048], held: &mut [usize; 17]) -> usize {
     io::write_all(1, line);
     match byte(line, 0) {
-        b'#' | b'\n' => return 23,
-        b'>' => return 22,
+        b'#' | b'\n' => return 25,
+        b'>' => return 24,
         _ => {}
     }
     let k = find(
         b"plan radices weights tables d digits row store beta steps plan::check plan::row store::test store::file store::coefficients \
-          store::settle program::check_writing program::write_into program::write program::run listing::worst_norm text::print_text ",
+          store::settle program::check_writing program::write_into program::write program::run listing::worst_norm readback::read_steps readback::read_listing \
+          text::print_text ",
         line,
     );
     let count = numbers(line, args);
     if wanted(k, count) != count {
         io::write_all(1, b"= malformed\n");
-        return 23;
+        return 25;
     }
     held[6] = count;
     k
@@ -102,8 +104,9 @@ fn obey(
         0..=9 => set(k, args, held, parts, row, store, beta, steps),
         10..=15 => with_store(k, args, held, parts, row, store, beta),
         16..=20 => with_program(k, held, parts, beta, steps),
-        21 => print_text(held, parts, args[0]),
-        22 => held[8] = append(&mut parts[0], held[8], line),
+        21 | 22 => with_readback(k, held, parts, beta, steps),
+        23 => print_text(held, parts, args[0]),
+        24 => held[8] = append(&mut parts[0], held[8], line),
         _ => {}
     }
 }

@@ -1,8 +1,9 @@
 // The library for hosts: every call as a C function over the entry points below, with the prefix `celery_`.
 //
 // An answer is 01's number, 0 where the call is accepted; what else an answer carries goes through a lent number, which a refusal leaves
-// alone. include/celerycrag.h documents each call. Stands on `plan`, `store`, `program` and `listing`. Renders 01, "Turned down", for a
-// host: of causes 1 to 12 the number returned and what is left as it was, in the words of the contracts below.
+// alone, but for the line that comes with 13 and 15. include/celerycrag.h documents each call. Stands on `plan`, `store`, `program`, `listing`
+// and `readback`. Renders 01, "Turned down", for a host: of causes 1 to 12, 13 and 15 the number returned and what is left as it was, in the
+// words of the contracts below.
 ghost use mathlib.Core.Path.{_≡_};
 ghost use Prim.Native.Nat.{_*_};
 ghost use Rattle.plan.specs.Causes.{first, result, numberOf};
@@ -14,6 +15,8 @@ ghost use Rattle.store.specs.Settled as settled;
 ghost use Rattle.program.specs.Layout.{stepCount};
 ghost use Rattle.program.specs.Calls as programs;
 ghost use Rattle.listing.specs.Norm as norms;
+ghost use Rattle.readback.specs.Recovery as recovery;
+ghost use Rattle.readback.specs.Listings as listings;
 ghost use Rattle.celerycrag.specs.Numbers as specs;
 
 // Checks a plan: causes 1 2 3 4 5.
@@ -264,6 +267,59 @@ pub extern "C" fn celery_run(
             0
         }
         program::Ran::Refused(k) => k,
+    }
+}
+
+// The coefficients from a list of steps into `beta`, of exactly C bytes: causes 1 2 3 4 5 15.
+#[no_mangle]
+pub extern "C" fn celery_read_steps(
+    p: usize,
+    s: usize,
+    n: usize,
+    m: usize,
+    t: usize,
+    radices: &[u8],
+    weights: &[u8],
+    tables: &[u8],
+    d: &[u8],
+    steps: &[u16],
+    beta: &mut [u8],
+) -> u8
+    ensures { λ r. ⌜ r ≡ first (recovery.stepsCauses (given p s n m t (now (radices .entry)) (now (weights .entry)) (now (tables .entry)) (now (d .entry))) (now (steps .entry)) (now (beta .entry))) ⌝ }
+    ensures { λ r. ⌜ now (beta .exit) ≡ result r (recovery.recovered (plan p s n m t) (now (steps .entry))) (now (beta .entry)) ⌝ }
+{
+    readback::read_steps(p, s, n, m, t, radices, weights, tables, d, steps, beta)
+}
+
+// The coefficients from a listing, a text lent whole, into `beta`, of exactly C bytes: causes 1 2 3 4 5, then 13 and 15, with which `line`
+// becomes the line that met them.
+#[no_mangle]
+pub extern "C" fn celery_read_listing(
+    p: usize,
+    s: usize,
+    n: usize,
+    m: usize,
+    t: usize,
+    radices: &[u8],
+    weights: &[u8],
+    tables: &[u8],
+    d: &[u8],
+    text: &[u8],
+    beta: &mut [u8],
+    line: &mut usize,
+) -> u8
+    ensures { λ r. ⌜ r ≡ listings.listingAnswer (given p s n m t (now (radices .entry)) (now (weights .entry)) (now (tables .entry)) (now (d .entry))) (now (text .entry)) (now (beta .entry)) .0 ⌝ }
+    ensures { λ r. ⌜ now (beta .exit) ≡ listings.listingLeft (given p s n m t (now (radices .entry)) (now (weights .entry)) (now (tables .entry)) (now (d .entry))) (now (text .entry)) (now (beta .entry)) ⌝ }
+    ensures { λ r. ⌜ now (line .exit) ≡ specs.lineAfter (listings.listingAnswer (given p s n m t (now (radices .entry)) (now (weights .entry)) (now (tables .entry)) (now (d .entry))) (now (text .entry)) (now (beta .entry)) .1) (now (line .entry)) ⌝ }
+{
+    let a = readback::read_listing(p, s, n, m, t, radices, weights, tables, d, text, beta);
+    match a {
+        readback::Reread::Read => 0,
+        readback::Reread::Refused(k) => k,
+        readback::Reread::RefusedAt(k, j) => {
+            *line = j;
+            k
+        }
     }
 }
 

@@ -1,21 +1,23 @@
 -- Bytes below p, and rows to which nothing is added or that nothing raises.
 --     below-joined       a maximum is below a bound exactly when both numbers are
 --     residues-of, below-of     the test `allBelow` says `Residues`, and back
+--     below-at, below-none, below-more      numbers below a bound, place by place
+--     below-append, below-both  two lists of them, one behind the other
 --     residues-tab, residues-snoc       lists of residues: by place, and with one residue more at the end
 --     plus-none          0 times a row added
 --     maxima-none        a row of zeros raises nothing
 -- Assumes nothing.
-use mathlib.Core.Path.{_≡_, refl, sym, ap₂, _∙_}
-use mathlib.Core.Bool.{true, _&&_}
+use mathlib.Core.Path.{_≡_, refl, sym, ap, ap₂, _∙_}
+use mathlib.Core.Bool.{Bool, true, false, _&&_}
 use mathlib.Core.List.{List, [], _∷_, _++_}
 use Prim.Native.Nat.{ℕ, zero, suc, max, _+_, _-_, _*_, _≤_, _<_}
-use native.Mathlib.Nat.{add-zero, zero-mul}
+use native.Mathlib.Nat.{add-zero, zero-mul, lt-of-lt-of-le}
 use native.Mathlib.Decide.{decLt}
 use native.Mathlib.Omega.{arith}
 use lib.Dec.{ltb}
 use lib.ListN.{length}
-use Rattle.lists.specs.Places.{tab, at}
-use Rattle.lists.proofs.Tests.{every-at, every-of}
+use Rattle.lists.specs.Places.{tab, every, at}
+use Rattle.lists.proofs.Tests.{refute, and-assoc, both, every-cons, every-at, every-of}
 use Rattle.lists.proofs.Tabs.{tab-length, tab-at, is-tab}
 use Rattle.lists.proofs.Parts.{at-past}
 use Rattle.field.specs.Residues.{Residues}
@@ -42,6 +44,31 @@ residues-of p xs pos h i = elim (decLt i (length xs)) [
 
 pub below-of : (p : ℕ) (xs : List ℕ) → Residues p xs → allBelow p xs ≡ true
 below-of p xs h = every-of (λ j. ltb (at xs j) p) (length xs) (λ i l. lt-ltb (at xs i) p (h i))
+
+module _ (p : ℕ) (xs : List ℕ) where
+  pub below-at : allBelow p xs ≡ true → (i : ℕ) → i < length xs → at xs i < p
+  below-at e i l = ltb-true (at xs i) p (every-at (λ j. ltb (at xs j) p) (length xs) e i l)
+
+  pub below-none : (i : ℕ) → i < length xs → p ≤ at xs i → allBelow p xs ≡ false
+  below-none i l h = refute (allBelow p xs) (λ e. omega (arith, below-at e i l, h))
+
+  pub below-more : (q : ℕ) → p ≤ q → allBelow p xs ≡ true → allBelow q xs ≡ true
+  below-more q h e = every-of (λ j. ltb (at xs j) q) (length xs) (λ j l. lt-ltb (at xs j) q (lt-of-lt-of-le (below-at e j l) h))
+
+below-cons : (p x : ℕ) (xs : List ℕ) → allBelow p (x ∷ xs) ≡ (ltb x p && allBelow p xs)
+below-cons p x xs = every-cons (λ j. ltb (at (x ∷ xs) j) p) (length xs)
+
+pub below-append : (p : ℕ) (xs ys : List ℕ) → allBelow p (xs ++ ys) ≡ (allBelow p xs && allBelow p ys)
+unfolding every
+below-append p [] ys = refl
+below-append p (x ∷ xs) ys =
+    below-cons p x (xs ++ ys)
+    ∙ ap (λ (b : Bool). ltb x p && b) (below-append p xs ys)
+    ∙ sym (and-assoc (ltb x p) (allBelow p xs) (allBelow p ys))
+    ∙ ap (λ (b : Bool). b && allBelow p ys) (sym (below-cons p x xs))
+
+pub below-both : (p : ℕ) (xs ys : List ℕ) → allBelow p xs ≡ true → allBelow p ys ≡ true → allBelow p (xs ++ ys) ≡ true
+below-both p xs ys hx hy = below-append p xs ys ∙ both (allBelow p xs) (allBelow p ys) hx hy
 
 pub residues-tab : (p n : ℕ) (f : ℕ → ℕ) → 0 < p → ((i : ℕ) → i < n → f i < p) → Residues p (tab n f)
 residues-tab p n f pos h i = elim (decLt i n) [

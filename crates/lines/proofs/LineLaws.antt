@@ -1,24 +1,20 @@
--- Passes over the words of a line, by the place that they have reached, and over two byte strings.
+-- Passes over the words of a line, by the place that they have reached.
 --     words-found, next-place               the words from a place on, where a number stands there; the next word is at most one past the end
 --     counted, counted-start, counted-none, counted-full, counted-next, counted-end
 --                                           whether the words from a place on are numerals and, with k before them, n in number
 --     asks-long, asks-count                 what a test of a line says of it
---     same-length, same-unlike, same-step, same-refuted, same-end      two byte strings, from a place on
 -- Assumes nothing.
-use mathlib.Core.Path.{_≡_, refl, sym, ap, _∙_}
-use mathlib.Core.Bool.{Bool, true, false, _&&_, false≢true}
-use mathlib.Core.List.{List, [], _∷_}
+use mathlib.Core.Path.{_≡_, sym, ap, _∙_}
+use mathlib.Core.Bool.{Bool, true, false, _&&_}
+use mathlib.Core.List.{List, _∷_}
 use Prim.Native.Nat.{ℕ, suc, _+_, _≤_, _<_}
 use native.Mathlib.Nat.{add-zero, zero-add}
-use native.Mathlib.Numerals.{add-one}
 use native.Mathlib.Omega.{arith}
 use lib.Dec.{eqb, ltb}
-use lib.ListN.{length, drop, drop-of-length-le, length-map}
-use lib.Seq.{drop-cons}
-use borrow.Author.Tests.{le-ltb, eq-eqb, ne-eqb, eqb-true}
-use Rattle.lists.specs.Places.{at}
-use Rattle.lists.proofs.Tests.{both-true, refute, and-false}
-use Rattle.lines.specs.Lines.{cutAt, number, allNumerals, asks, numbers, same}
+use lib.ListN.{length, length-map}
+use borrow.Author.Tests.{le-ltb, ne-eqb, eqb-true}
+use Rattle.lists.proofs.Tests.{both-true, and-false}
+use Rattle.lines.specs.Lines.{cutAt, number, allNumerals, asks, numbers}
 use Rattle.lines.specs.Words.{word, wordsFrom, numeralAt}
 use Rattle.lines.specs.declared.numerals.Numeral.the-variants.{Number, Malformed}
 use Rattle.lines.proofs.WordLaws.{piece-fits, pieces-past, pieces-all, pieces-step}
@@ -72,31 +68,3 @@ module _ (most n : ℕ) (line : List ℕ) where
       let a = both-true (ltb (length line) 1024) (allNumerals most (cutAt 32 line) && eqb (length (cutAt 32 line)) n) h in
       let b = both-true (allNumerals most (cutAt 32 line)) (eqb (length (cutAt 32 line)) n) (a .1) in
       length-map (cutAt 32 line) number ∙ eqb-true (length (cutAt 32 line)) n (b .1)
-
--- two byte strings, from a place on
-pub same-length : (xs ys : List ℕ) → same xs ys ≡ true → length xs ≡ length ys
-unfolding same
-same-length [] [] h = refl
-same-length [] (y ∷ ys) h = absurd (false≢true h)
-same-length (x ∷ xs) [] h = absurd (false≢true h)
-same-length (x ∷ xs) (y ∷ ys) h = ap suc (same-length xs ys (both-true (eqb x y) (same xs ys) h .1))
-
-pub same-unlike : (xs ys : List ℕ) → (length xs ≡ length ys → ⊥) → same xs ys ≡ false
-same-unlike xs ys h = refute (same xs ys) (λ e. h (same-length xs ys e))
-
-module _ (xs ys : List ℕ) (i : ℕ) (hx : i < length xs) (hy : i < length ys) where
-  same-cons : same (drop i xs) (drop i ys) ≡ (eqb (at xs i) (at ys i) && same (drop (i + 1) xs) (drop (i + 1) ys))
-  unfolding same
-  same-cons = rw (add-one, drop-cons xs i 0 hx, drop-cons ys i 0 hy)
-
-  pub same-step : at xs i ≡ at ys i → same (drop i xs) (drop i ys) ≡ same (drop (i + 1) xs) (drop (i + 1) ys)
-  same-step e = same-cons ∙ rw (eq-eqb (at xs i) (at ys i) e)
-
-  pub same-refuted : (at xs i ≡ at ys i → ⊥) → same (drop i xs) (drop i ys) ≡ false
-  same-refuted e = same-cons ∙ rw (ne-eqb (at xs i) (at ys i) e)
-
-pub same-end : (xs ys : List ℕ) (i : ℕ) → length xs ≡ length ys → length xs ≤ i → same (drop i xs) (drop i ys) ≡ true
-unfolding same
-same-end xs ys i e h =
-    let h′ : length ys ≤ i = omega arith in
-    rw (drop-of-length-le xs h, drop-of-length-le ys h′)

@@ -6,8 +6,7 @@
 --     allNumerals most words   each word is such a number, as a test
 --     asks most n bytes    a line of n such numbers, one space between, of at most 1,024 bytes with its LF, as a test
 --     numbers bytes        the numbers of a line
---     same xs ys           two byte strings are equal, as a test
-use mathlib.Core.Bool.{Bool, true, false, cond, not, _&&_, _||_}
+use mathlib.Core.Bool.{Bool, true, cond, not, _&&_, _||_}
 use mathlib.Core.List.{List, [], _∷_, map}
 use Prim.Native.Nat.{ℕ, _+_, _-_, _*_}
 use lib.Dec.{eqb, leb, ltb}
@@ -51,9 +50,3 @@ asks most n bytes = ltb (length bytes) 1024 && (allNumerals most (cutAt 32 bytes
 
 unfoldable pub numbers : List ℕ → List ℕ
 numbers bytes = map number (cutAt 32 bytes)
-
-unfoldable pub same : List ℕ → List ℕ → Bool
-same [] [] = true
-same [] (y ∷ ys) = false
-same (x ∷ xs) [] = false
-same (x ∷ xs) (y ∷ ys) = eqb x y && same xs ys

@@ -5,5 +5,6 @@ mod cursor;
 mod numerals;
 mod reading;
 
+pub use numerals::piece_end;
 pub use reading::read_line;
 pub use reading::same;

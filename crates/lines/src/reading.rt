@@ -3,6 +3,7 @@ ghost use mathlib.Core.Path.{_≡_};
 ghost use mathlib.Core.Bool.{true};
 ghost use Prim.Native.Nat.{_≤_, _<_};
 ghost use lib.ListN.{length};
+ghost use Rattle.lists.specs.Places as places;
 ghost use Rattle.lines.specs.Lines as lines;
 ghost use Rattle.lines.specs.Words as specs;
 use crate::cursor::begin;
@@ -11,7 +12,7 @@ use crate::numerals::Numeral;
 
 // Whether two byte strings are equal.
 pub fn same(xs: &[u8], ys: &[u8]) -> bool
-    ensures { λ r. ⌜ r ≡ lines.same (now (xs .entry)) (now (ys .entry)) ⌝ }
+    ensures { λ r. ⌜ r ≡ places.same (now (xs .entry)) (now (ys .entry)) ⌝ }
 {
     if xs.len() != ys.len() {
         return false;

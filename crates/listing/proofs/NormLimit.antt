@@ -47,7 +47,7 @@ rows-limit : (p : ℕ) (ws : List ℕ) (begin size : ℕ → ℕ) (count : ℕ) 
 rows-limit p ws begin size count top small few =
     largest-le (λ i. squares p ws (begin i) (size i)) 1000000 count (λ i h. squares-limit p ws (begin i) (size i) top small (few i h))
 
-worst-limit : (P : Plan) (w d β : List ℕ) → Within P → Residues (P .p) w → Residues (P .p) d → Residues (P .p) β → worst P w d β ≤ 1000000
+pub worst-limit : (P : Plan) (w d β : List ℕ) → Within P → Residues (P .p) w → Residues (P .p) d → Residues (P .p) β → worst P w d β ≤ 1000000
 unfolding worst
 worst-limit P w d β within hw hd hβ =
     let top = prime-high within in

@@ -2,7 +2,9 @@
 pub mod Sums
 pub mod Maxima
 pub mod Tabs
+pub mod Joins
 pub mod Tests
+pub mod Sameness
 pub mod Parts
 pub mod Placing
 pub mod Overwrite

@@ -3,7 +3,7 @@
 --     same-tests               two tests that hold together are the same
 --     and-false, and-assoc     the standard library's, passed on
 --     both-true, both          from a conjunction to its halves, and back
---     every-next               one place more
+--     every-next, every-cons   one place more, at the end and in front
 --     every-at, every-of       from the test to a place, and from all places to the test
 -- Assumes nothing.
 use mathlib.Core.Path.{_≡_, refl, sym, ap, _∙_}
@@ -34,6 +34,15 @@ both false b p q = p
 pub every-next : (f : ℕ → Bool) (n : ℕ) → every f (n + 1) ≡ (every f n && f n)
 unfolding every
 every-next f n = rw add-one refl
+
+pub every-cons : (f : ℕ → Bool) (n : ℕ) → every f (suc n) ≡ (f 0 && every (λ j. f (suc j)) n)
+unfolding every
+every-cons f zero = swap (f 0)
+  where
+    swap : (b : Bool) → (true && b) ≡ (b && true)
+    swap true = refl
+    swap false = refl
+every-cons f (suc n) = ap (λ (b : Bool). b && f (suc n)) (every-cons f n) ∙ and-assoc (f 0) (every (λ j. f (suc j)) n) (f (suc n))
 
 pub every-at : (f : ℕ → Bool) (n : ℕ) → every f n ≡ true → (i : ℕ) → i < n → f i ≡ true
 unfolding every

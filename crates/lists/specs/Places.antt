@@ -7,9 +7,11 @@
 --     placed out k xs    the list out with xs written over it from place k on
 --     every f n          the test f holds at each place below n
 --     at xs i            what stands at place i of the list xs (0 past its end)
+--     same xs ys         two lists of numbers are equal, as a test
 use mathlib.Core.List.{List, [], _∷_, _++_}
-use mathlib.Core.Bool.{Bool, true, _&&_}
+use mathlib.Core.Bool.{Bool, true, false, _&&_}
 use Prim.Native.Nat.{ℕ, zero, suc, _+_, max}
+use lib.Dec.{eqb}
 use lib.ListN.{getD, length, take, drop}
 
 unfoldable pub sum : (ℕ → ℕ) → ℕ → ℕ
@@ -37,3 +39,9 @@ every f (suc n) = every f n && f n
 
 abbrev pub at : List ℕ → ℕ → ℕ
 at xs i = getD xs i 0
+
+unfoldable pub same : List ℕ → List ℕ → Bool
+same [] [] = true
+same [] (y ∷ ys) = false
+same (x ∷ xs) [] = false
+same (x ∷ xs) (y ∷ ys) = eqb x y && same xs ys

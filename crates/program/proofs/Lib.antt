@@ -3,6 +3,7 @@ pub mod Pieces
 pub mod Effects
 pub mod Demand2
 pub mod Shape
+pub mod Fronts
 pub mod Placement
 pub mod Interpreting
 pub mod Answers

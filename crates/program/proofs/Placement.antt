@@ -12,13 +12,14 @@
 -- Assumes nothing.
 use mathlib.Core.Path.{_≡_, refl, sym, ap, ap₂, subst, _∙_}
 use mathlib.Core.List.{List, [], _++_, append-assoc}
-use Prim.Native.Nat.{ℕ, zero, suc, _+_, _-_, _*_, _≤_, _<_}
-use native.Mathlib.Nat.{add-zero, add-suc, le-step, lt-suc-self, add-sub-cancel-left}
+use Prim.Native.Nat.{ℕ, suc, _+_, _-_, _*_, _≤_, _<_}
+use native.Mathlib.Nat.{add-zero, add-sub-cancel-left}
 use native.Mathlib.Numerals.{add-one}
 use native.Mathlib.Omega.{arith}
 use lib.ListN.{length, set, take, drop, length-append}
 use lib.Seq.{sets-eq}
 use Rattle.lists.specs.Places.{joined, placed, at}
+use Rattle.lists.proofs.Joins.{joined-next, joined-mono, joined-ext}
 use Rattle.lists.proofs.Placing.{placed-length, placed-nothing, placed-placed}
 use Rattle.lists.proofs.Parts.{cut-length, part-at}
 use Rattle.plan.specs.Numbers.{variables}
@@ -93,20 +94,6 @@ wrote-6 a b c d e f room wa wb wc wd we wf =
     (wrote-then b (c ++ (d ++ (e ++ f))) rest wb (wrote-4 c d e f (wrote-room b (c ++ (d ++ (e ++ f))) rest wb) wc wd we wf))
 
 -- a list of pieces
-pub joined-next : (F : ℕ → List ℕ) (j : ℕ) → joined F (j + 1) ≡ joined F j ++ F j
-unfolding joined
-joined-next F j = rw add-one refl
-
-joined-mono : (F : ℕ → List ℕ) (j n : ℕ) → j ≤ n → length (joined F j) ≤ length (joined F n)
-joined-mono F j n h = subst (λ (k : ℕ). length (joined F j) ≤ length (joined F k)) e (more (n - j))
-  where
-    e : j + (n - j) ≡ n
-    e = omega arith
-
-    more : (k : ℕ) → length (joined F j) ≤ length (joined F (j + k))
-    more zero = rw add-zero (omega arith)
-    more (suc k) = rw (add-suc, sym (add-one (j + k)), joined-next F (j + k), length-append) (omega (arith, more k))
-
 pub joined-room : (F : ℕ → List ℕ) (out : List ℕ) (k j n : ℕ) → j < n → Room out k (joined F n) → Room out k (joined F j ++ F j)
 joined-room F out k j n h room =
     omega (arith, joined-mono F (j + 1) n (omega arith), ap length (joined-next F j), room)
@@ -147,11 +134,6 @@ module _ (r : ℕ) (g : ℕ → ℕ) where
   pub adds-all : {out left : List ℕ} {k end : ℕ} (j n : ℕ) → j ≤ n → n ≤ j → Wrote out k (adds r g j) end left → Wrote out k (adds r g n) end left
   unfolding adds
   adds-all j n low high w = joined-all (λ i. add r i (g i)) j n low high w
-
-joined-ext : (F G : ℕ → List ℕ) (n : ℕ) → ((j : ℕ) → j < n → F j ≡ G j) → joined F n ≡ joined G n
-unfolding joined
-joined-ext F G zero h = refl
-joined-ext F G (suc n) h = ap₂ _++_ (joined-ext F G n (λ j l. h j (le-step l))) (h n (lt-suc-self n))
 
 -- weights from a part of a list
 pub adds-cut : (r : ℕ) (ws : List ℕ) (a l : ℕ) → a + l ≤ length ws

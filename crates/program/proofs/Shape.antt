@@ -49,7 +49,7 @@ one-less (suc m) =
 pub links-count : (n m : ℕ) → sum (λ k. n + k + 2) m ≡ m * (n + 2) + m * (m - 1) / 2
 links-count n m = omega (arith, links-twice n m, one-less m)
 
-same-count : (c t : ℕ) → sum (λ i. c) t ≡ t * c
+pub same-count : (c t : ℕ) → sum (λ i. c) t ≡ t * c
 same-count c zero = rw sum-zero (omega arith)
 same-count c (suc t) = rw sum-suc (omega (arith, same-count c t))
 

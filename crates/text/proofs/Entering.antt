@@ -13,14 +13,14 @@ use native.Mathlib.Nat.{mul-le-mul, le-antisymm}
 use native.Mathlib.Omega.{arith}
 use lib.ListN.{length, take, drop, replicate, length-replicate, drop-of-length-le}
 use lib.Seq.{take-at, length-take-le}
-use Rattle.lists.specs.Places.{at}
+use Rattle.lists.specs.Places.{at, same}
 use Rattle.plan.specs.Causes.{first, result, numberOf, answer}
 use Rattle.plan.specs.Numbers.{columns}
 use Rattle.plan.specs.Parts.{Given, storeSize}
 use Rattle.plan.proofs.Refusals.{number-answer}
 use Rattle.store.specs.Calls.{fileCauses, answerOf, filed}
 use Rattle.store.specs.declared.elimination.Filed.{Filed}
-use Rattle.lines.specs.Lines.{asks, numbers, same}
+use Rattle.lines.specs.Lines.{asks, numbers}
 use Rattle.text.specs.Meaning.{names, header, entryNames, entries, next, cause, unless, planNames, pairNames, entryCauses, entered, judged}
 use Rattle.text.proofs.Judging.{refuses, reaches}
 

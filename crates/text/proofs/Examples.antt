@@ -1,11 +1,8 @@
 -- The meaning of texts: 01's XOR example with its radices, byte for byte, AND under its plan, and a refusal of each kind. One collected table of
 -- facts about the definition; each computes. A quoted text stands for its bytes, `\n` for the LF. Assumes nothing.
 use mathlib.Core.Path.{_≡_, refl}
-use mathlib.Core.List.{List, [], _∷_}
-use Prim.Native.Nat.{ℕ}
-use Prim.Native.Char.{code}
-use Prim.Native.String.{String, [] as []ˢ, _∷_ as _∷ˢ_}
-use Rattle.lists.specs.Places.{sum, tab, every, joined, largest}
+use mathlib.Core.List.{[]}
+use Rattle.lists.specs.Places.{sum, tab, every, joined, largest, same}
 use Rattle.field.specs.Primes.{isPrime, oddPrime}
 use Rattle.field.specs.Residues.{inverse}
 use Rattle.plan.specs.Numbers.{product, badRadix, radicesFit, outOfRange}
@@ -17,13 +14,9 @@ use Rattle.program.specs.Layout.{adds, linkSteps, productSteps, layout, stepCou
 use Rattle.listing.specs.Norm.{short, squares, worst}
 use Rattle.listing.specs.Decimal.{digitsOf, decimal, spaced, line}
 use Rattle.listing.specs.Printed.{listing, refused}
-use Rattle.lines.specs.Lines.{cutAt, allDigits, isNumeral, numberFrom, allNumerals, asks, numbers, same}
+use Rattle.lines.specs.Lines.{cutAt, allDigits, isNumeral, numberFrom, allNumerals, asks, numbers}
+use Rattle.lines.proofs.Quotes.{bytes}
 use Rattle.text.specs.Meaning.{judged, ended, from, meaning}
-
--- the bytes of a quoted text in ASCII
-abbrev pub bytes : String → List ℕ
-bytes []ˢ = []
-bytes (c ∷ˢ s) = code c ∷ bytes s
 
 pub record Meanings : Type 0 where
   -- "The XOR text gains the line `2 2` and prints the same"

@@ -2,17 +2,16 @@
 --     not-entries                  what the test of the stage leaves
 --     finish-stopped, finish-broken, finish-early, finish-filed      what is printed, by the stage and the bytes held
 --     entries-inside, filed-sound      at the entries, the parts and the store are as the listing needs them
---     program-room, program-fits, program-front, program-written, program-length      the program in a lent slice
 --     read-front, read-back, read-part, read-residues      the coefficients in a local array
 --     prints                       what is printed equals a definition
 --     sound-state, prints-meaning      what `finish` asks for and prints, after all bytes of a text
 -- Assumes nothing.
 use mathlib.Core.Path.{_≡_, refl, sym, ap, subst, _∙_}
-use mathlib.Core.List.{List, [], _∷_, _++_, append-nil}
-use Prim.Native.Nat.{ℕ, _+_, _*_, _≤_, _<_}
+use mathlib.Core.List.{List, [], _∷_, _++_}
+use Prim.Native.Nat.{ℕ, _+_, _≤_, _<_}
 use native.Mathlib.Nat.{pos-of-ne-zero}
 use native.Mathlib.Omega.{arith}
-use lib.ListN.{length, take, drop, length-append, drop-of-length-le}
+use lib.ListN.{length, take, length-append}
 use lib.Seq.{take-at, length-take-le}
 use denote.Enum.Declared.{tagOf}
 use types.Run.{OneOf, miss}
@@ -23,8 +22,6 @@ use Rattle.plan.specs.declared.numbers.Plan.{Plan}
 use Rattle.plan.specs.Numbers.{columns, Within}
 use Rattle.plan.specs.Parts.{lend, storeSize, Lent}
 use Rattle.plan.proofs.Bounds.{prime-low}
-use Rattle.program.specs.Layout.{layout, stepCount}
-use Rattle.program.proofs.Shape.{layout-length, step-limit}
 use Rattle.store.specs.Stages.{Ready}
 use Rattle.store.specs.Elimination.{readOff, cells}
 use Rattle.store.specs.Calls.{coefficients}
@@ -113,28 +110,6 @@ module _ (state : code.State) (line R w T d S : List ℕ) where
   filed-sound P a b c size e h s =
       let at-entries = subst (λ (g : Stage). SoundState (stated (state .line) (take (state .held) line) (judgedOf g R w T d S))) e s in
       (lent (lend P (take (P .n) R) (take a w) (take b T) (take c d)) (at-entries .0), subst (λ (n : ℕ). Ready (P .p) (columns P) (take n S)) (sym h) (at-entries .1))
-
-pub program-room : (P : Plan) (n : ℕ) → Within P → n ≡ stepCount P → (4 * n ≤ 20000) × ((w d β : List ℕ) → length (layout P w d β) ≡ 4 * n)
-program-room P n within e = (omega (arith, step-limit P within), λ w d β. layout-length P w d β ∙ ap (λ (k : ℕ). 4 * k) (sym e))
-
-pub program-fits : (P : Plan) (n : ℕ) {k : ℕ} → Within P → n ≡ stepCount P → 20000 ≤ k → 4 * n ≤ k
-program-fits P n within e h = omega (arith, program-room P n within e .0)
-
--- a slice whose front of k places has been lent and filled
-module _ (steps out xs : List ℕ) (k : ℕ) (l : k ≤ length steps) (e : length xs ≡ k) (h : out ≡ placed (take k steps) 0 xs) where
-  whole : out ≡ xs
-  whole =
-      let room : length (take k steps) ≤ 0 + length xs = rw (length-take-le k steps l) (omega arith) in
-      h ∙ ap (λ (ys : List ℕ). xs ++ ys) (drop-of-length-le (take k steps) room) ∙ append-nil xs
-
-  pub program-front : k ≤ length (out ++ drop k steps)
-  program-front = rw length-append (omega (arith, ap length whole))
-
-  pub program-written : take k (out ++ drop k steps) ≡ xs
-  program-written = ap (λ (ys : List ℕ). take k (ys ++ drop k steps)) whole ∙ take-at xs (drop k steps) k e
-
-  pub program-length : k ≡ length (take k (out ++ drop k steps))
-  program-length = sym (ap length program-written ∙ e)
 
 -- coefficients read off into the front of an array
 module _ (P : Plan) (store out rest : List ℕ) (n : ℕ) (sized : n ≡ columns P) (read : out ≡ coefficients n store) where

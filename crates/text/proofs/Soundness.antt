@@ -5,17 +5,17 @@
 -- Assumes nothing.
 use mathlib.Core.Path.{_≡_, refl, sym, subst, _∙_}
 use mathlib.Core.Bool.{Bool, true, false, cond, not}
-use mathlib.Core.List.{List, [], _∷_, _++_}
+use mathlib.Core.List.{List, [], _∷_}
 use Prim.Native.Nat.{ℕ, zero, suc, _+_, _≤_, _<_}
 use native.Mathlib.Nat.{le-antisymm}
 use native.Mathlib.Omega.{arith}
 use lib.Dec.{eqb, ltb}
 use lib.ListN.{length, length-append}
 use borrow.Author.Tests.{ltb-true, ltb-false, not-false}
-use Rattle.lists.specs.Places.{sum, every, at}
+use Rattle.lists.specs.Places.{sum, every, at, same}
 use Rattle.lists.proofs.Sums.{sum-suc}
-use Rattle.lists.proofs.Tests.{both-true, both}
 use Rattle.field.specs.Rows.{allBelow}
+use Rattle.field.proofs.Ranges.{below-both}
 use Rattle.field.proofs.Ranges.{residues-of}
 use Rattle.plan.specs.declared.numbers.Plan.{Plan}
 use Rattle.plan.specs.Causes.{first}
@@ -26,13 +26,12 @@ use Rattle.plan.proofs.Refusals.{first-none, none-met}
 use Rattle.plan.proofs.Limits.{within-of}
 use Rattle.store.specs.Calls.{emptyStore, fileCauses}
 use Rattle.store.proofs.Readiness.{empty-ready, unmet, filed-ready}
-use Rattle.lines.specs.Lines.{asks, numbers, same}
+use Rattle.lines.specs.Lines.{asks, numbers}
 use Rattle.lines.proofs.LineLaws.{asks-count}
 use Rattle.text.specs.Meaning.{Place, names, header, radices, weights, table, products, entryNames, entries, Judged, next, cause, unless, moreWeights, moreTables, moreProducts, afterLinks, afterProducts, headerCauses, headerPlan, radicesCauses, lineCauses, entryCauses, entered, judged, planNames, pairNames}
 use Rattle.text.specs.Streaming.{State, reading, stopped, turned, push, pushes, hold}
 use Rattle.text.specs.Progress.{Planned}
 use Rattle.text.specs.Sound.{Parts, Sound, SoundState}
-use Rattle.text.proofs.Parting.{below-cons}
 
 -- a line after which there is a next place met none of its causes
 unless-next : (k : ℕ) (place after : Place) → unless k place ≡ next after → (k ≡ 0) × (place ≡ after)
@@ -43,12 +42,6 @@ unless-next (suc k) place after e = let z : _≡_ {A = ℕ} 0 1 = cc in absurd (
 passed : (k : ℕ) (b : Bool) (rest : ℕ) → 0 < k → cond b k rest ≡ 0 → (b ≡ false) × (rest ≡ 0)
 passed k true rest l e = absurd (omega arith)
 passed k false rest l e = (refl, e)
-
-below-append : (p : ℕ) (xs ys : List ℕ) → allBelow p xs ≡ true → allBelow p ys ≡ true → allBelow p (xs ++ ys) ≡ true
-below-append p [] ys hx hy = hy
-below-append p (x ∷ xs) ys hx hy =
-    let h = both-true (ltb x p) (allBelow p xs) (sym (below-cons p x xs) ∙ hx) in
-    below-cons p x (xs ++ ys) ∙ both (ltb x p) (allBelow p (xs ++ ys)) (h .0) (below-append p xs ys (h .1) hy)
 
 -- a line of a part: as many numbers as asked for, all below p
 part-line : (n p : ℕ) (line : List ℕ) → first (lineCauses n p line) ≡ 0 → (length (numbers line) ≡ n) × (allBelow p (numbers line) ≡ true)
@@ -86,7 +79,7 @@ module _ (G : Given) where
           weights-length = length-append (G .weights) (numbers line) ∙ rw (parts .weights-length, h .0) (sym (sum-suc (λ i. G .numbers .n + i) k));
           tables-length = parts .tables-length;
           products-length = parts .products-length;
-          weights-below = below-append (G .numbers .p) (G .weights) (numbers line) (parts .weights-below) (h .1);
+          weights-below = below-both (G .numbers .p) (G .weights) (numbers line) (parts .weights-below) (h .1);
           tables-below = parts .tables-below;
           products-below = parts .products-below;
         }
@@ -101,7 +94,7 @@ module _ (G : Given) where
           tables-length = length-append (G .tables) (numbers line) ∙ rw (parts .tables-length, h .0) (omega arith);
           products-length = parts .products-length;
           weights-below = parts .weights-below;
-          tables-below = below-append (G .numbers .p) (G .tables) (numbers line) (parts .tables-below) (h .1);
+          tables-below = below-both (G .numbers .p) (G .tables) (numbers line) (parts .tables-below) (h .1);
           products-below = parts .products-below;
         }
 
@@ -116,7 +109,7 @@ module _ (G : Given) where
           products-length = length-append (G .products) (numbers line) ∙ rw (parts .products-length, h .0) (omega arith);
           weights-below = parts .weights-below;
           tables-below = parts .tables-below;
-          products-below = below-append (G .numbers .p) (G .products) (numbers line) (parts .products-below) (h .1);
+          products-below = below-both (G .numbers .p) (G .products) (numbers line) (parts .products-below) (h .1);
         }
 
   pub lent : Parts G (G .numbers .m) (G .numbers .m) (G .numbers .t) → Lent G

@@ -22,7 +22,7 @@ use mathlib.Core.List.{List, [], _∷_, _++_}
 use Prim.Native.Nat.{ℕ, zero, suc, _+_}
 use lib.Dec.{ltb}
 use lib.ListN.{length}
-use Rattle.lists.specs.Places.{at, placed}
+use Rattle.lists.specs.Places.{at, placed, same}
 use Rattle.field.specs.Rows.{allBelow}
 use Rattle.plan.specs.declared.numbers.Plan.{Plan}
 use Rattle.plan.specs.Causes.{first}
@@ -30,7 +30,7 @@ use Rattle.plan.specs.Numbers.{variables, columns, numberCauses, radixCauses, p
 use Rattle.plan.specs.Parts.{Given, lend}
 use Rattle.store.specs.Calls.{emptyStore, fileCauses, filed, coefficients}
 use Rattle.listing.specs.Printed.{listing, refused}
-use Rattle.lines.specs.Lines.{cutAt, asks, numbers, same}
+use Rattle.lines.specs.Lines.{cutAt, asks, numbers}
 
 pub data Place : Type 0 where
   names : Place

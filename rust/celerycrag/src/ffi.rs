@@ -63,4 +63,12 @@ calls! {
         bootstraps: *mut usize
     );
     celery_worst_norm(beta: *const u8, beta_len: usize, norm: *mut usize);
+    celery_read_steps(steps: *const u16, steps_len: usize, beta: *mut u8, beta_len: usize);
+    celery_read_listing(
+        text: *const u8,
+        text_len: usize,
+        beta: *mut u8,
+        beta_len: usize,
+        line: *mut usize
+    );
 }

@@ -117,10 +117,59 @@
 //! A forced residue may be s or more. Then the entry has an output that is no
 //! value, and none can be filed for it.
 //!
+//! # Reading a listing back
+//!
+//! Who kept the printed program and lost the table gets it back, as long as the
+//! plan is there: [`Plan::read_listing`] gives the coefficients of which exactly
+//! this listing is printed, and [`Plan::read_steps`] those of a list of steps.
+//!
+//! ```
+//! use celerycrag::{Plan, Program, Shape};
+//!
+//! # fn main() -> Result<(), Box<dyn std::error::Error>> {
+//! let listing = b"bootstraps steps worst
+//! 2 19 2
+//! kind to from by
+//! 0 6 0 0
+//! 0 2 0 0
+//! 1 2 0 0
+//! 1 2 1 1
+//! 0 3 0 0
+//! 1 3 0 1
+//! 1 3 1 1
+//! 0 4 0 0
+//! 1 4 2 1
+//! 1 4 3 1
+//! 0 5 0 0
+//! 1 5 2 1
+//! 1 5 3 2
+//! 2 4 4 0
+//! 2 5 5 1
+//! 1 6 4 1
+//! 1 6 5 1
+//! 1 6 0 1
+//! 1 6 1 0
+//! ";
+//! let shape = Shape { p: 3, s: 2, n: 2, m: 0, t: 1 };
+//! let plan = Plan::new(shape, vec![2, 2], vec![], vec![], vec![1, 1])?;
+//! let beta = plan.read_listing(listing)?;
+//! assert_eq!(beta, [0, 1, 1, 0]);
+//!
+//! // The program runs again, and gives the table of the exclusive or.
+//! let program = Program::write(&plan, &beta)?;
+//! let value = |entry| plan.digits(entry).and_then(|digits| program.run(&digits));
+//! for (entry, y) in [0, 1, 1, 0].into_iter().enumerate() {
+//!     assert_eq!(value(entry)?.y, y);
+//! }
+//! # Ok(())
+//! # }
+//! ```
+//!
 //! # Refusals
 //!
 //! A call that is turned down gives a [`Refusal`] with a number and a sentence
-//! and changes nothing. No call panics, whatever it is given.
+//! and changes nothing; of a listing also the line, in a [`ListingRefusal`]. No
+//! call panics, whatever it is given.
 //!
 //! # Linking
 //!
@@ -140,5 +189,5 @@ mod store;
 
 pub use plan::{Plan, Shape};
 pub use program::{Program, Ran, Step};
-pub use refusal::Refusal;
+pub use refusal::{ListingRefusal, Refusal};
 pub use store::{Filed, Settled, Store};

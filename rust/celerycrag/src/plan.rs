@@ -2,7 +2,7 @@
 
 use crate::program::Ran;
 use crate::raw::{self, Lent};
-use crate::Refusal;
+use crate::{ListingRefusal, Refusal};
 use std::sync::Arc;
 
 /// The five numbers of a plan.
@@ -250,5 +250,78 @@ impl Plan {
         let mut norm = 0;
         Refusal::unless_0(raw::worst_norm(self.lent(), beta, &mut norm))?;
         Ok(norm)
+    }
+
+    /// The coefficients β back from a written program, four numbers a step, as
+    /// [`Program::numbers`] has them: those for which [`Program::write`] gives
+    /// exactly this list. There are no others.
+    ///
+    /// ```
+    /// use celerycrag::{Plan, Program, Refusal, Shape};
+    /// # fn main() -> Result<(), Refusal> {
+    /// let shape = Shape { p: 3, s: 2, n: 2, m: 0, t: 1 };
+    /// let plan = Plan::with_radix(shape, vec![], vec![], vec![1, 1])?;
+    /// let program = Program::write(&plan, &[0, 1, 1, 0])?;
+    /// assert_eq!(plan.read_steps(program.numbers())?, [0, 1, 1, 0]);
+    ///
+    /// // Without its last step it is no program of this plan.
+    /// let shorter = &program.numbers()[..4 * (plan.step_count() - 1)];
+    /// assert_eq!(plan.read_steps(shorter), Err(Refusal::NOT_WRITTEN));
+    /// # Ok(())
+    /// # }
+    /// ```
+    ///
+    /// # Errors
+    /// Cause 15 where no coefficients make the writer give exactly this list:
+    /// also for a list that [`Plan::run`] would refuse with 11, and for an empty
+    /// one.
+    ///
+    /// [`Program::numbers`]: crate::Program::numbers
+    /// [`Program::write`]: crate::Program::write
+    pub fn read_steps(&self, steps: &[u16]) -> Result<Vec<u8>, Refusal> {
+        let mut beta = vec![0; self.columns()];
+        Refusal::unless_0(raw::read_steps(self.lent(), steps, &mut beta))?;
+        Ok(beta)
+    }
+
+    /// The coefficients β back from a listing, as the filing program prints it:
+    /// those of which it prints exactly this text, the three figures too. There
+    /// are no others.
+    ///
+    /// The table comes back with them: the value of an entry is its row times
+    /// β, summed modulo p, or what the program written from β answers.
+    ///
+    /// ```
+    /// use celerycrag::{Plan, Refusal, Shape};
+    /// # fn main() -> Result<(), Box<dyn std::error::Error>> {
+    /// let shape = Shape { p: 5, s: 3, n: 2, m: 0, t: 0 };
+    /// let plan = Plan::with_radix(shape, vec![], vec![], vec![])?;
+    /// let listing = "bootstraps steps worst\n0 3 5\nkind to from by\n0 6 0 0\n1 6 0 2\n1 6 1 4\n";
+    /// assert_eq!(plan.read_listing(listing.as_bytes())?, [2, 4]);
+    ///
+    /// // The worst norm is 2 times 2 and 1, since 4 counts as -1.
+    /// let wrong = listing.replace("0 3 5", "0 3 20");
+    /// let turned_down = plan.read_listing(wrong.as_bytes()).unwrap_err();
+    /// assert_eq!(turned_down.refusal, Refusal::NOT_WRITTEN);
+    /// assert_eq!(turned_down.line, Some(1));
+    /// # Ok(())
+    /// # }
+    /// ```
+    ///
+    /// # Errors
+    /// Cause 13 with the first line that is malformed or missing; where there is
+    /// none, cause 15 with line 1 where no coefficients have exactly this
+    /// listing.
+    pub fn read_listing(&self, text: &[u8]) -> Result<Vec<u8>, ListingRefusal> {
+        let mut beta = vec![0; self.columns()];
+        // No line has this number.
+        let mut line = 0;
+        let number = raw::read_listing(self.lent(), text, &mut beta, &mut line);
+        let at_line = |refusal| ListingRefusal {
+            refusal,
+            line: (line > 0).then_some(line),
+        };
+        Refusal::unless_0(number).map_err(at_line)?;
+        Ok(beta)
     }
 }

@@ -2,9 +2,9 @@
 //!
 //! They take numbers and slices of any kind: the library tests everything it is
 //! lent, lengths too, and answers the number of a refusal, 0 where it accepts.
-//! A refused call leaves every lent slice and number as it was. The types of
-//! the crate's root are easier to use; these functions are for hosts that keep
-//! their own buffers, and for the tests.
+//! A refused call leaves every lent slice and number as it was, but for the line
+//! that [`read_listing`] tells. The types of the crate's root are easier to use;
+//! these functions are for hosts that keep their own buffers, and for the tests.
 
 use crate::ffi;
 
@@ -170,4 +170,33 @@ pub fn run(plan: Lent, steps: &[u16], digits: &[u8], y: &mut u8, bootstraps: &mu
 /// most 1,000,000. Causes 1 2 3 4 5.
 pub fn worst_norm(plan: Lent, beta: &[u8], norm: &mut usize) -> u8 {
     call!(celery_worst_norm, plan, beta.as_ptr(), beta.len(), norm)
+}
+
+/// Reads the coefficients back from a written program into `beta`: those from
+/// which [`write()`] gives exactly these steps. Causes 1 2 3 4 5 15.
+pub fn read_steps(plan: Lent, steps: &[u16], beta: &mut [u8]) -> u8 {
+    call!(
+        celery_read_steps,
+        plan,
+        steps.as_ptr(),
+        steps.len(),
+        beta.as_mut_ptr(),
+        beta.len()
+    )
+}
+
+/// Reads the coefficients back from a listing into `beta`: those of which the
+/// filing program prints exactly this text. Where it is refused with 13 or 15,
+/// `line` becomes the line at fault, from 1 on, which of 15 is always 1.
+/// Causes 1 2 3 4 5 13 15.
+pub fn read_listing(plan: Lent, text: &[u8], beta: &mut [u8], line: &mut usize) -> u8 {
+    call!(
+        celery_read_listing,
+        plan,
+        text.as_ptr(),
+        text.len(),
+        beta.as_mut_ptr(),
+        beta.len(),
+        line
+    )
 }

@@ -46,6 +46,11 @@ impl Refusal {
     pub const STEPS: Refusal = Refusal { number: 11 };
     /// 12: a digit is not below its own radix.
     pub const NO_DIGIT: Refusal = Refusal { number: 12 };
+    /// 13: a line of the text is malformed or missing.
+    pub const MALFORMED: Refusal = Refusal { number: 13 };
+    // 14 is the filing program's alone.
+    /// 15: no coefficients make the writer give exactly this.
+    pub const NOT_WRITTEN: Refusal = Refusal { number: 15 };
 
     /// The answer of a call as a result: 0 is acceptance.
     pub(crate) fn unless_0(number: u8) -> Result<(), Refusal> {
@@ -55,7 +60,7 @@ impl Refusal {
         }
     }
 
-    /// The number of the cause, 1 to 12.
+    /// The number of the cause: 1 to 13, or 15. 14 is the filing program's alone.
     pub fn number(self) -> u8 {
         self.number
     }
@@ -75,6 +80,8 @@ impl Refusal {
             10 => "the step slice is shorter than 4 times the step count",
             11 => "the step list is malformed",
             12 => "a digit is not below its own radix",
+            13 => "a line of the text is malformed or missing",
+            15 => "no coefficients make the writer give exactly this",
             _ => "a cause that has no sentence here",
         }
     }
@@ -87,3 +94,45 @@ impl fmt::Display for Refusal {
 }
 
 impl Error for Refusal {}
+
+/// Why a listing was turned down, and for which line.
+///
+/// ```
+/// use celerycrag::{ListingRefusal, Plan, Refusal, Shape};
+/// # fn main() -> Result<(), Refusal> {
+/// let shape = Shape { p: 3, s: 2, n: 1, m: 0, t: 0 };
+/// let plan = Plan::with_radix(shape, vec![], vec![], vec![])?;
+/// let text = b"bootstraps steps worst\n0 2 1\nkind to from by\n0 5 0 0\n1  5 0 1\n";
+/// let turned_down = plan.read_listing(text).unwrap_err();
+/// assert_eq!(turned_down.refusal, Refusal::MALFORMED);
+/// assert_eq!(turned_down.line, Some(5));
+/// assert_eq!(
+///     turned_down.to_string(),
+///     "line 5: refused with 13: a line of the text is malformed or missing"
+/// );
+/// # Ok(())
+/// # }
+/// ```
+#[derive(Clone, Copy, Debug, PartialEq, Eq, Hash)]
+pub struct ListingRefusal {
+    /// The cause.
+    pub refusal: Refusal,
+    /// The line at fault, counted from 1; 1 for cause 15, which is met by the
+    /// listing as a whole. None where the listing was not looked at.
+    pub line: Option<usize>,
+}
+
+impl fmt::Display for ListingRefusal {
+    fn fmt(&self, f: &mut fmt::Formatter) -> fmt::Result {
+        if let Some(line) = self.line {
+            write!(f, "line {line}: ")?;
+        }
+        self.refusal.fmt(f)
+    }
+}
+
+impl Error for ListingRefusal {
+    fn source(&self) -> Option<&(dyn Error + 'static)> {
+        Some(&self.refusal)
+    }
+}

@@ -1,5 +1,6 @@
 //! The plan texts of examples/ through the wrapper: each files its whole
-//! table, and its program is the listing that is kept beside it.
+//! table, its program is the listing that is kept beside it, and the
+//! coefficients are read back from both.
 
 use celerycrag::{Plan, Program, Shape, Store};
 use std::fs;
@@ -56,6 +57,8 @@ fn listing(text: &str) -> String {
     for step in program.numbers().chunks(4) {
         out += &format!("{} {} {} {}\n", step[0], step[1], step[2], step[3]);
     }
+    assert_eq!(plan.read_steps(program.numbers()).as_ref(), Ok(&beta));
+    assert_eq!(plan.read_listing(out.as_bytes()).as_ref(), Ok(&beta));
     out
 }
 

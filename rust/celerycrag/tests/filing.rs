@@ -1,13 +1,15 @@
 //! The filing program against the reference: the same bytes printed for texts
-//! in order and not, however the text comes in.
+//! in order and not, however the text comes in; and what it prints is read back.
 
 mod common;
+use celerycrag::raw;
 use common::lots::pairs;
 use common::plans::{outline, Owned};
 use common::program::program;
 use common::random::{cases, Random};
 use common::tally::Tally;
 use common::texts::{radices, spoil, text};
+use common::twins;
 use std::collections::BTreeSet;
 use std::fs;
 use std::io::{ErrorKind, Write};
@@ -159,6 +161,32 @@ fn lines_of_radices() {
             assert!(met.contains(&answer), "{answer:?} was never printed");
         }
     }
+}
+
+/// What the program prints is read back: to the coefficients of the store that
+/// the library files the same entries in.
+#[test]
+fn what_is_printed_is_read_back() {
+    let mut tally = Tally::default();
+    cases("what is printed is read back", 50, |random| {
+        let plan = if random.one_in(20) {
+            Owned::zeros(random.pick(&LARGEST[..7]))
+        } else {
+            outline(random, 30)
+        };
+        let plan = plan.drawn(random);
+        let entries: Vec<usize> = (0..10).map(|_| random.below(plan.entries())).collect();
+        let mut store = plan.empty_store();
+        let mut kept = pairs(random, &plan, entries);
+        kept.retain(|&(entry, value)| {
+            raw::file(plan.lent(), &mut store, entry, value, &mut 0) == 0
+        });
+        let printed = prints(&[&text(&plan, &kept)]);
+        let (mut beta, mut back) = (vec![0; plan.columns()], vec![255; plan.columns()]);
+        assert_eq!(raw::coefficients(plan.lent(), &store, &mut beta), 0);
+        let answer = twins::read_listing(&plan, &printed, &mut back, &mut tally);
+        assert_eq!((answer, back), (Ok(()), beta));
+    });
 }
 
 #[test]

@@ -36,7 +36,7 @@ const MIXED: [([usize; 5], &[u8]); 6] = [
     ([241, 3, 5, 26, 32], &[2, 3, 4, 5, 34]),
 ];
 
-/// All ten calls on a lot of this plan with other residues, a few more
+/// All twelve calls on a lot of this plan with other residues, a few more
 /// filings, and a program.
 fn large(random: &mut Random, plan: Owned, tally: &mut Tally) {
     let mut lot = lot_of(random, plan);
@@ -138,10 +138,11 @@ fn nothing_overflows() {
             value: plan.s - 1,
             row: vec![0; columns],
             store,
-            beta,
             room: vec![7; 4 * plan.step_count()],
             steps: vec![],
             digits: plan.digits(last),
+            text: twins::listing(&plan, &beta),
+            beta,
             plan,
         };
         twins::all(&lot, &mut tally);
@@ -157,6 +158,9 @@ fn nothing_overflows() {
         assert_eq!(twins::settle(plan, &full, last, &mut tally), Ok(forced));
         let steps = twins::write(plan, &lot.beta, &lot.room, &mut tally).expect("accepted");
         assert!(twins::run(plan, &steps, &lot.digits, &mut tally).is_ok());
+        let mut back = vec![255; columns];
+        assert_eq!(twins::read_steps(plan, &steps, &mut back, &mut tally), 0);
+        assert_eq!(back, lot.beta, "read back");
         // Each weight counts as -1 there; the largest norm is in norms.rs.
         let norm = twins::worst_norm(plan, &lot.beta, &mut tally);
         assert_eq!(norm, Ok(plan.variables()));
@@ -283,7 +287,7 @@ fn radices_at_the_limits() {
     }
 }
 
-/// The same lists in all ten calls, where the rest of a lot fits n digits.
+/// The same lists in all twelve calls, where the rest of a lot fits n digits.
 #[test]
 fn radices_at_the_limits_in_every_call() {
     let mut tally = Tally::default();

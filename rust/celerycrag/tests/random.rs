@@ -85,6 +85,9 @@ fn whole_table(random: &mut Random, plan: &Owned, tally: &mut Tally) {
     let room = vec![random.next() as u16; 4 * plan.step_count() + slack];
     let steps = twins::write(plan, &beta, &room, tally).expect("an accepted writing");
     assert_eq!(steps.len(), 4 * plan.step_count());
+    let mut back = random.bytes(plan.columns(), 256);
+    assert_eq!(twins::read_steps(plan, &steps, &mut back, tally), 0);
+    assert_eq!(back, beta, "read back");
 
     let mut row = vec![0; plan.columns()];
     for (entry, kept) in kept.into_iter().enumerate() {
@@ -116,6 +119,7 @@ fn foreign_call(random: &mut Random, plan: &Owned, store: &[u8], tally: &mut Tal
         room: vec![],
         steps: vec![],
         digits: vec![0; plan.n],
+        text: vec![],
         plan: plan.clone(),
     };
     for _ in 0..random.within(1, 2) {

@@ -2,7 +2,7 @@
 //! they never panic.
 
 use celerycrag::raw::{self, Lent};
-use celerycrag::{Filed, Plan, Program, Ran, Refusal, Settled, Shape, Step, Store};
+use celerycrag::{Filed, ListingRefusal, Plan, Program, Ran, Refusal, Settled, Shape, Step, Store};
 use std::error::Error;
 
 const XOR: Shape = Shape {
@@ -393,6 +393,69 @@ fn foreign_lists_run_too() {
 }
 
 #[test]
+fn programs_are_read_back() {
+    let plan = linked();
+    for beta in [[0, 1, 2, 3, 4, 0], [4; 6], [0; 6]] {
+        let program = Program::write(&plan, &beta).expect("a program");
+        assert_eq!(plan.read_steps(program.numbers()), Ok(beta.to_vec()));
+        assert_eq!(
+            xor().read_steps(program.numbers()),
+            Err(Refusal::NOT_WRITTEN)
+        );
+    }
+    for steps in [
+        &[][..],
+        &[0; 3],
+        &[0; 4],
+        &[u16::MAX; 4 * 26],
+        &[0; 100_000],
+    ] {
+        assert_eq!(plan.read_steps(steps), Err(Refusal::NOT_WRITTEN));
+    }
+}
+
+#[test]
+fn listings_are_read_back() {
+    const LISTING: &str = include_str!("../../../examples/xor.out");
+    let plan = xor();
+    let read = |text: &str| plan.read_listing(text.as_bytes());
+    assert_eq!(read(LISTING), Ok(vec![0, 1, 1, 0]));
+    let refused = |refusal, line| {
+        let line = Some(line);
+        Err(ListingRefusal { refusal, line })
+    };
+    assert_eq!(read(""), refused(Refusal::MALFORMED, 1));
+    assert_eq!(read(LISTING.trim_end()), refused(Refusal::MALFORMED, 22));
+    assert_eq!(
+        read(&LISTING.replace("2 19 2", "2 19 3")),
+        refused(Refusal::NOT_WRITTEN, 1)
+    );
+    let late = format!("{}x\n", LISTING.replace("2 19 2", "2 19 3"));
+    assert_eq!(read(&late), refused(Refusal::MALFORMED, 23));
+    assert_eq!(
+        linked().read_listing(LISTING.as_bytes()),
+        refused(Refusal::NOT_WRITTEN, 1)
+    );
+}
+
+#[test]
+fn refusals_of_listings_are_errors_with_their_line() {
+    let refusal = Refusal::NOT_WRITTEN;
+    let line = Some(1);
+    let error: Box<dyn Error + Send + Sync> = Box::new(ListingRefusal { refusal, line });
+    assert_eq!(error.to_string(), format!("line 1: {refusal}"));
+    assert_eq!(
+        error.source().map(|source| source.to_string()),
+        Some(refusal.to_string())
+    );
+    let no_line = ListingRefusal {
+        refusal: Refusal::LENGTH,
+        line: None,
+    };
+    assert_eq!(no_line.to_string(), Refusal::LENGTH.to_string());
+}
+
+#[test]
 fn refusals_are_errors_with_a_number_and_a_sentence() {
     let all = [
         Refusal::NO_PRIME,
@@ -407,8 +470,11 @@ fn refusals_are_errors_with_a_number_and_a_sentence() {
         Refusal::NO_ROOM,
         Refusal::STEPS,
         Refusal::NO_DIGIT,
+        Refusal::MALFORMED,
+        Refusal::NOT_WRITTEN,
     ];
-    for (refusal, number) in all.into_iter().zip(1..) {
+    // 14 is the filing program's alone.
+    for (refusal, number) in all.into_iter().zip((1..=13).chain([15])) {
         assert_eq!(refusal.number(), number);
         let error: Box<dyn Error + Send + Sync> = Box::new(refusal);
         let text = error.to_string();
@@ -426,4 +492,5 @@ fn the_types_go_between_threads() {
     both::<Store>();
     both::<Program>();
     both::<Refusal>();
+    both::<ListingRefusal>();
 }

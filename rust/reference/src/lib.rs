@@ -1,5 +1,5 @@
 //! A naive twin of the table library: document 01, with the requests of 02 that
-//! have landed (C-11, C-12, C-14; C-13 changes no answer), in plain Rust.
+//! have landed (C-11, C-12, C-14, C-15; C-13 changes no answer), in plain Rust.
 //!
 //! It is written from the papers alone and shares no line with the library.
 //! Tests and benchmarks compare the two, so every function here takes the
@@ -18,6 +18,9 @@
 //! | [`write()`] | β, step slice in and out | the filled part | the same |
 //! | [`run`] | steps, digits | [`Ran`], or a number | 1 2 3 4 5 11 12 |
 //! | [`worst_norm`] | β | the norm, or a number | 1 2 3 4 5 |
+//! | [`listing()`] | β | the listing, or a number | 1 2 3 4 5 |
+//! | [`read_steps`] | steps, β out | number | 1 2 3 4 5 15 |
+//! | [`read_listing`] | text, β out | [`Reread`] | 1 2 3 4 5 13 15 |
 //! | [`filing_program`] | standard input | standard output | 1 2 3 5 7 8 9 13 14 |
 //!
 //! Every call but the last takes the numbers `p s n m t`, then the plan's
@@ -29,18 +32,23 @@
 #![allow(clippy::too_many_arguments)]
 
 mod field;
+mod lines;
+mod listing;
 mod norm;
 mod plan;
 mod program;
 pub mod random;
+mod readback;
 mod row;
 mod store;
 mod text;
 
 pub use field::{inverse, is_odd_prime};
+pub use listing::listing;
 pub use norm::worst_norm;
 pub use plan::{check_plan, Plan};
 pub use program::{check_writing, run, write, Ran};
+pub use readback::{read_listing, read_steps, Reread};
 pub use row::row;
 pub use store::{coefficients, file, settle, test_store, Filed, Settled};
 pub use text::filing_program;

@@ -3,7 +3,7 @@
 
 mod common;
 use common::{call, Owned};
-use reference::{Filed, Settled};
+use reference::{Filed, Reread, Settled};
 
 /// One repair of a call that meets every cause: after the i-th, cause i is no
 /// longer met. What is lent at first meets all of them.
@@ -209,6 +209,59 @@ fn worst_norm_in_order() {
 }
 
 #[test]
+fn read_steps_in_order() {
+    let mut broken = Broken::new();
+    let written = broken.good.steps(&[1, 2, 0, 0, 1, 2]);
+    // β has no byte below p at first: its old bytes are not tested.
+    let (mut steps, mut beta) = (vec![9; 7], vec![99; 7]);
+    for cause in [1, 2, 3, 4, 5, 15] {
+        let before = beta.clone();
+        assert_eq!(call!(read_steps, broken.plan, &steps, &mut beta), cause);
+        assert_eq!(beta, before);
+        broken.repair(cause);
+        match cause {
+            4 => beta = vec![99; 6],
+            15 => steps.clone_from(&written),
+            _ => {}
+        }
+    }
+    assert_eq!(call!(read_steps, broken.plan, &steps, &mut beta), 0);
+    assert_eq!(beta, [1, 2, 0, 0, 1, 2]);
+}
+
+#[test]
+fn read_listing_in_order() {
+    let mut broken = Broken::new();
+    let listing = broken.good.listing(&[1, 2, 0, 0, 1, 2]);
+    // Line 2 is wrong and the last line malformed.
+    let (mut text, mut beta) = (
+        format!("{}0", listing.replacen(" 26 ", " 27 ", 1)),
+        vec![99; 5],
+    );
+    let last = listing.lines().count() as u64 + 1;
+    for cause in [1, 2, 3, 4, 5, 13, 15] {
+        let before = beta.clone();
+        let answer = call!(read_listing, broken.plan, text.as_bytes(), &mut beta);
+        let expected = match cause {
+            13 => Reread::RefusedAt(13, last),
+            15 => Reread::RefusedAt(15, 1),
+            _ => Reread::Refused(cause),
+        };
+        assert_eq!((answer, &beta), (expected, &before));
+        broken.repair(cause);
+        match cause {
+            4 => beta = vec![99; 6],
+            13 => drop(text.pop()),
+            15 => text.clone_from(&listing),
+            _ => {}
+        }
+    }
+    let answer = call!(read_listing, broken.plan, text.as_bytes(), &mut beta);
+    assert_eq!(answer, Reread::Read);
+    assert_eq!(beta, [1, 2, 0, 0, 1, 2]);
+}
+
+#[test]
 fn every_part_in_another_length_is_4_and_every_large_byte_5() {
     let good = Broken::new().good;
     type Part = fn(&mut Owned) -> &mut Vec<u8>;
@@ -252,6 +305,11 @@ fn lengths_come_before_values_across_parts() {
     assert_eq!(call!(check_writing, plan, &[9; 7], &[]), 4);
     assert_eq!(plan.run(&[9], &[9]), Err(4));
     assert_eq!(plan.worst(&[9; 7]), Err(4));
+    assert_eq!(call!(read_steps, plan, &[], &mut [9; 7]), 4);
+    assert_eq!(call!(read_steps, plan, &[], &mut [9; 6]), 5);
+    let listing = |beta: &mut [u8]| call!(read_listing, plan, b"", beta);
+    assert_eq!(listing(&mut [9; 5]), Reread::Refused(4));
+    assert_eq!(listing(&mut [9; 6]), Reread::Refused(5));
 }
 
 #[test]

@@ -11,6 +11,7 @@ mod clock;
 mod filing;
 mod flint;
 mod plans;
+mod reading;
 mod settling;
 mod timing;
 
@@ -111,6 +112,11 @@ fn main() {
         for (case, store) in cases.iter().zip(&stores) {
             println!("{}", line(case, store));
         }
+    }
+
+    println!("\n## Reading back\n\n{}", reading::INTRODUCTION);
+    for (plan, beta) in reading::programs(&stores) {
+        println!("{}", reading::line(&plan, &beta));
     }
 
     if let Some(builds) = Builds::open() {

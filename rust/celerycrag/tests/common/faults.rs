@@ -1,5 +1,6 @@
 //! What can be wrong with a lot.
 
+use super::listings;
 use super::plans::{product, Owned};
 use super::random::Random;
 use super::twins::Lot;
@@ -63,7 +64,7 @@ fn another(random: &mut Random, right: usize) -> usize {
 
 /// Makes one thing wrong, or at least likely to be.
 pub fn fault(random: &mut Random, lot: &mut Lot) {
-    match random.below(14) {
+    match random.below(16) {
         0 => number(random, &mut lot.plan),
         1 => wrap(random, &mut lot.plan),
         2 | 3 => length(random, lot),
@@ -73,6 +74,7 @@ pub fn fault(random: &mut Random, lot: &mut Lot) {
         9 => lot.value = another(random, lot.plan.s),
         10 => bad_step(random, lot),
         11 => bad_digit(random, lot),
+        12 | 13 => listings::spoil(random, &mut lot.text),
         _ => radices(random, &mut lot.plan),
     }
 }

@@ -1,10 +1,11 @@
-//! Random lots for the ten calls, with nothing wrong and of noise, and random
+//! Random lots for the twelve calls, with nothing wrong and of noise, and random
 //! entries with values.
 
 use super::faults::EDGES;
+use super::listings;
 use super::plans::{outline, reduced, residues, Owned};
 use super::random::Random;
-use super::twins::Lot;
+use super::twins::{listing, Lot};
 use celerycrag::raw;
 
 /// A lot with nothing wrong, of a plan of at most so many columns.
@@ -13,7 +14,8 @@ pub fn lot(random: &mut Random, most_columns: usize) -> Lot {
     lot_of(random, plan)
 }
 
-/// A lot with nothing wrong, of this plan with other residues.
+/// A lot with nothing wrong, of this plan with other residues; but half of the
+/// lists of steps are no program of it, which only reading back refuses.
 pub fn lot_of(random: &mut Random, plan: Owned) -> Lot {
     let plan = plan.drawn(random);
     let store = match random.below(4) {
@@ -35,6 +37,7 @@ pub fn lot_of(random: &mut Random, plan: Owned) -> Lot {
         let count = random.below(60);
         well_formed(random, &plan, count)
     };
+    let kept = residues(random, plan.columns(), plan.p);
     Lot {
         entry: random.below(plan.entries()),
         value: random.below(plan.s),
@@ -44,6 +47,7 @@ pub fn lot_of(random: &mut Random, plan: Owned) -> Lot {
         room,
         steps,
         digits: plan.digits(random.below(plan.entries())),
+        text: listing(&plan, &kept),
         plan,
     }
 }
@@ -59,7 +63,7 @@ fn filed(random: &mut Random, plan: &Owned) -> Vec<u8> {
 }
 
 /// The program of a plan and β.
-fn written(plan: &Owned, beta: &[u8]) -> Vec<u16> {
+pub fn written(plan: &Owned, beta: &[u8]) -> Vec<u16> {
     let mut steps = vec![0; 4 * plan.step_count()];
     raw::write(plan.lent(), beta, &mut steps, &mut 0);
     steps
@@ -150,6 +154,15 @@ pub fn noise(random: &mut Random) -> Lot {
     for steps in [&mut lot.steps, &mut lot.room] {
         let count = random.below(5) * 4 + random.pick(&[0, 0, 0, 1]);
         *steps = (0..count).map(|_| random.below(below) as u16).collect();
+    }
+    match random.below(4) {
+        0 => lot.text.truncate(random.below(200)),
+        1 => {
+            let (count, k) = (random.below(200), random.pick(&[2, 64, 128, 256]));
+            lot.text = random.bytes(count, k);
+        }
+        2 => listings::spoil(random, &mut lot.text),
+        _ => {}
     }
     lot
 }

@@ -1,9 +1,11 @@
 //! What the tests share: random numbers, plans with parts of their own, stores
-//! with bytes changed, the calls made twice, on the library and on the
+//! and listings with something changed, the calls made twice, on the library and on the
 //! reference, and the program.
 #![allow(dead_code)]
 
 pub mod faults;
+pub mod kept;
+pub mod listings;
 pub mod lots;
 pub mod plans;
 pub mod program;

@@ -4,7 +4,7 @@
 use std::collections::BTreeMap;
 
 /// The calls with the causes that each can meet.
-pub const CAUSES: [(&str, &[u8]); 10] = [
+pub const CAUSES: [(&str, &[u8]); 12] = [
     ("check", &[1, 2, 3, 4, 5]),
     ("row", &[1, 2, 3, 4, 5, 7]),
     ("test", &[1, 2, 3, 4, 5, 6]),
@@ -15,6 +15,8 @@ pub const CAUSES: [(&str, &[u8]); 10] = [
     ("write", &[1, 2, 3, 4, 5, 10]),
     ("run", &[1, 2, 3, 4, 5, 11, 12]),
     ("worst_norm", &[1, 2, 3, 4, 5]),
+    ("read_steps", &[1, 2, 3, 4, 5, 15]),
+    ("read_listing", &[1, 2, 3, 4, 5, 13, 15]),
 ];
 
 #[derive(Default)]

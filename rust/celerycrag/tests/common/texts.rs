@@ -59,7 +59,7 @@ pub fn spoil(random: &mut Random, text: &mut Vec<u8>) {
 }
 
 /// A byte changed, taken out, put in, or doubled.
-fn byte(random: &mut Random, text: &mut Vec<u8>) {
+pub fn byte(random: &mut Random, text: &mut Vec<u8>) {
     if text.is_empty() {
         return;
     }
@@ -78,7 +78,7 @@ fn byte(random: &mut Random, text: &mut Vec<u8>) {
 }
 
 /// Two lines swapped, or one taken out, doubled, or emptied.
-fn lines(random: &mut Random, text: &mut Vec<u8>) {
+pub fn lines(random: &mut Random, text: &mut Vec<u8>) {
     let mut lines: Vec<&[u8]> = text.split_inclusive(|&byte| byte == b'\n').collect();
     if lines.is_empty() {
         return;
@@ -94,12 +94,12 @@ fn lines(random: &mut Random, text: &mut Vec<u8>) {
 }
 
 /// The parts between one byte and the next of its kind.
-fn split(bytes: &[u8], at: u8) -> Vec<Vec<u8>> {
+pub fn split(bytes: &[u8], at: u8) -> Vec<Vec<u8>> {
     bytes.split(|&byte| byte == at).map(Vec::from).collect()
 }
 
 /// Changes the words of a line, counted from 0, where the text has it.
-fn words(text: &mut Vec<u8>, place: usize, change: impl FnOnce(&mut Vec<Vec<u8>>)) {
+pub fn words(text: &mut Vec<u8>, place: usize, change: impl FnOnce(&mut Vec<Vec<u8>>)) {
     let mut lines = split(text, b'\n');
     if let Some(line) = lines.get_mut(place) {
         let mut words = split(line, b' ');
@@ -183,7 +183,7 @@ pub fn radices(random: &mut Random, text: &mut Vec<u8>) {
 }
 
 /// A piece of the text put in somewhere, or taken out.
-fn piece(random: &mut Random, text: &mut Vec<u8>) {
+pub fn piece(random: &mut Random, text: &mut Vec<u8>) {
     let start = random.below(text.len() + 1);
     let end = (start + random.below(40)).min(text.len());
     if random.one_in(2) {
@@ -196,7 +196,7 @@ fn piece(random: &mut Random, text: &mut Vec<u8>) {
 }
 
 /// Noise put in somewhere, sometimes more than a line may hold.
-fn noise(random: &mut Random, text: &mut Vec<u8>) {
+pub fn noise(random: &mut Random, text: &mut Vec<u8>) {
     let most = random.pick(&[3, 20, 1_100, 2_100]);
     let count = random.below(most);
     let noise = match random.below(4) {

@@ -5,7 +5,7 @@
 use super::plans::Owned;
 use super::tally::Tally;
 use celerycrag::raw;
-use reference::{Filed, Ran, Settled};
+use reference::{Filed, Ran, Reread, Settled};
 use std::fmt::Debug;
 
 /// What a single number that is lent holds before the call; no call answers it.
@@ -15,7 +15,7 @@ const OLD_BYTE: u8 = 0xFE;
 /// The elements beside a slice that is lent to be written.
 const MARGIN: usize = 37;
 
-/// Everything that the ten calls take.
+/// Everything that the twelve calls take.
 #[derive(Clone, Debug)]
 pub struct Lot {
     pub plan: Owned,
@@ -26,9 +26,11 @@ pub struct Lot {
     pub beta: Vec<u8>,
     /// What the writer is lent.
     pub room: Vec<u16>,
-    /// What is run.
+    /// What is run, and read back.
     pub steps: Vec<u16>,
     pub digits: Vec<u8>,
+    /// What is read back.
+    pub text: Vec<u8>,
 }
 
 /// Calls the reference with the plan's numbers and parts, then the call's own.
@@ -222,7 +224,68 @@ pub fn worst_norm(plan: &Owned, beta: &[u8], tally: &mut Tally) -> Result<usize,
     }
 }
 
-/// All ten calls on one lot, which stays as it is.
+/// Makes the call on `beta`, and leaves there what both made of it. What is
+/// accepted is the program that the library writes from it.
+pub fn read_steps(plan: &Owned, steps: &[u16], beta: &mut Vec<u8>, tally: &mut Tally) -> u8 {
+    let mut expected = beta.clone();
+    let number = by_reference!(read_steps, plan, steps, &mut expected);
+    let lent = steps.to_vec();
+    let (after, answer) = fenced(beta, 0xA5, |beta| raw::read_steps(plan.lent(), &lent, beta));
+    agreed("read_steps", answer, number, tally);
+    assert_eq!(after, expected, "the coefficients of a program");
+    assert!(answer == 0 || after == *beta, "a refused β was written");
+    assert!(lent == steps, "reading back wrote to the steps");
+    if answer == 0 {
+        let mut again = vec![0xA5A5; steps.len()];
+        let mut written = OLD;
+        assert_eq!(raw::write(plan.lent(), &after, &mut again, &mut written), 0);
+        assert!(again == steps && written == steps.len(), "written again");
+    }
+    *beta = after;
+    answer
+}
+
+/// Makes the call on `beta`, and leaves there what both made of it; a refusal
+/// comes with the line that it tells. What is accepted is the listing that the
+/// reference prints of it.
+pub fn read_listing(
+    plan: &Owned,
+    text: &[u8],
+    beta: &mut Vec<u8>,
+    tally: &mut Tally,
+) -> Result<(), (u8, Option<usize>)> {
+    let mut expected = beta.clone();
+    let (number, told) = match by_reference!(read_listing, plan, text, &mut expected) {
+        Reread::Read => (0, None),
+        Reread::Refused(number) => (number, None),
+        Reread::RefusedAt(number, line) => (number, Some(line as usize)),
+    };
+    let lent = text.to_vec();
+    let (after, (line, answer)) = fenced(beta, 0xA5, |beta| {
+        fenced(&[OLD], !OLD, |line| {
+            raw::read_listing(plan.lent(), &lent, beta, &mut line[0])
+        })
+    });
+    agreed("read_listing", answer, number, tally);
+    assert_eq!(line[0], told.unwrap_or(OLD), "the line of answer {answer}");
+    assert_eq!(after, expected, "the coefficients of a listing");
+    assert!(answer == 0 || after == *beta, "a refused β was written");
+    assert!(lent == text, "reading back wrote to the text");
+    *beta = after;
+    if answer != 0 {
+        return Err((answer, told));
+    }
+    assert!(listing(plan, beta) == text, "printed again");
+    Ok(())
+}
+
+/// The listing of an accepted plan and β, by the reference.
+pub fn listing(plan: &Owned, beta: &[u8]) -> Vec<u8> {
+    let listing = by_reference!(listing, plan, beta);
+    listing.expect("a plan and its β").into_bytes()
+}
+
+/// All twelve calls on one lot, which stays as it is.
 pub fn all(lot: &Lot, tally: &mut Tally) {
     let plan = &lot.plan;
     check(plan, tally);
@@ -234,4 +297,6 @@ pub fn all(lot: &Lot, tally: &mut Tally) {
     let _ = write(plan, &lot.beta, &lot.room, tally);
     let _ = run(plan, &lot.steps, &lot.digits, tally);
     let _ = worst_norm(plan, &lot.beta, tally);
+    read_steps(plan, &lot.steps, &mut lot.beta.clone(), tally);
+    let _ = read_listing(plan, &lot.text, &mut lot.beta.clone(), tally);
 }

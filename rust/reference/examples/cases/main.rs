@@ -6,7 +6,7 @@
 //!
 //!     cargo run --release --offline -p reference --example cases < ../crates/cases/stdin > ../crates/cases/stdout
 
-use reference::{Filed, Settled};
+use reference::{Filed, Reread, Settled};
 use std::fmt::Display;
 
 /// What is set, and what was printed.
@@ -117,6 +117,8 @@ impl Cases {
             ("program::write", []) => self.write(),
             ("program::run", []) => self.run(),
             ("listing::worst_norm", []) => self.worst_norm(),
+            ("readback::read_steps", []) => self.read_steps(),
+            ("readback::read_listing", []) => self.read_listing(),
             ("text::print_text", [room]) => self.print_text(*room),
             _ => return None,
         }
@@ -195,6 +197,27 @@ impl Cases {
         }
     }
 
+    fn read_steps(&mut self) {
+        let mut beta = self.beta.clone();
+        self.say("number", call!(read_steps, self, &self.steps, &mut beta));
+        self.whole("beta", &beta);
+        self.beta = beta;
+    }
+
+    fn read_listing(&mut self) {
+        let (text, mut beta) = (std::mem::take(&mut self.text), self.beta.clone());
+        match call!(read_listing, self, &text, &mut beta) {
+            Reread::Read => self.print("= read\n"),
+            Reread::Refused(number) => self.say("refused", number),
+            Reread::RefusedAt(number, line) => {
+                self.say("refused", number);
+                self.say("line", line);
+            }
+        }
+        self.whole("beta", &beta);
+        self.beta = beta;
+    }
+
     fn print_text(&mut self, room: u64) {
         let mut slice = [9; ROOM];
         let text = std::mem::take(&mut self.text);
@@ -214,7 +237,9 @@ impl Cases {
 /// Everything that the program prints for these vectors.
 pub fn output(vectors: &str) -> Vec<u8> {
     let mut cases = Cases::default();
-    vectors.lines().for_each(|line| cases.line(line));
+    // A line ends in LF, and a CR before it is a byte of the line.
+    let lines = vectors.split_terminator('\n');
+    lines.for_each(|line| cases.line(line));
     cases.out
 }
 

@@ -1,9 +1,10 @@
 //! What the tests share: a plan that owns its parts, with the calls as
-//! methods, and a small source of random numbers.
+//! methods, every β of a plan, texts with a line changed, and a small source of
+//! random numbers.
 #![allow(dead_code)]
 
 use reference::random::SplitMix;
-use reference::{Filed, Ran, Settled};
+use reference::{Filed, Ran, Reread, Settled};
 
 /// A plan with parts of its own, checked or not.
 #[derive(Clone)]
@@ -158,6 +159,35 @@ impl Owned {
         call!(worst_norm, self, beta)
     }
 
+    pub fn listing(&self, beta: &[u8]) -> String {
+        call!(listing, self, beta).expect("a listing")
+    }
+
+    /// The coefficients of a list of steps. A refused call leaves its β alone.
+    pub fn read_steps(&self, steps: &[u16]) -> Result<Vec<u8>, u32> {
+        let mut beta = vec![0xA5; self.columns()];
+        match call!(read_steps, self, steps, &mut beta) {
+            0 => Ok(beta),
+            number => {
+                assert!(beta.iter().all(|&byte| byte == 0xA5), "β was written");
+                Err(number)
+            }
+        }
+    }
+
+    /// The coefficients of a listing, or the number and the line. A refused call
+    /// leaves its β alone.
+    pub fn read_listing(&self, text: impl AsRef<[u8]>) -> Result<Vec<u8>, (u32, u64)> {
+        let mut beta = vec![0xA5; self.columns()];
+        let refusal = match call!(read_listing, self, text.as_ref(), &mut beta) {
+            Reread::Read => return Ok(beta),
+            Reread::Refused(number) => (number, 0),
+            Reread::RefusedAt(number, line) => (number, line),
+        };
+        assert!(beta.iter().all(|&byte| byte == 0xA5), "β was written");
+        Err(refusal)
+    }
+
     /// The digits of an entry, found without the reference: from the left, each
     /// by the product of the radices behind it.
     pub fn digits(&self, entry: u64) -> Vec<u8> {
@@ -187,6 +217,27 @@ impl Owned {
             .sum();
         ((products + sum(&beta[t * l..])) % p) as u8
     }
+}
+
+/// Every list of C residues.
+pub fn every_beta(plan: &Owned) -> Vec<Vec<u8>> {
+    let mut all = vec![vec![]];
+    for _ in 0..plan.columns() {
+        let longer = |beta: &Vec<u8>| {
+            let beta = beta.clone();
+            (0..plan.p as u8).map(move |x| [&beta[..], &[x]].concat())
+        };
+        all = all.iter().flat_map(longer).collect();
+    }
+    all
+}
+
+/// The text with one line, counted from 1, changed.
+pub fn with_line(text: &str, line: usize, change: impl FnOnce(&str) -> String) -> String {
+    let mut lines: Vec<String> = text.split_inclusive('\n').map(String::from).collect();
+    let old = lines[line - 1].trim_end_matches('\n').to_string();
+    lines[line - 1] = change(&old) + "\n";
+    lines.concat()
 }
 
 /// Numbers from a generator.

@@ -3,8 +3,8 @@ use mathlib.Core.Path.{_≡_, refl, sym, _∙_}
 use Prim.Native.Nat.{_-_, _≤_}
 use native.Mathlib.Omega.{arith}
 use lib.ListN.{length, drop}
-use Rattle.lines.specs.Lines.{same}
-use Rattle.lines.proofs.LineLaws.{same-unlike, same-step, same-refuted, same-end}
+use Rattle.lists.specs.Places.{same}
+use Rattle.lists.proofs.Sameness.{same-unlike, same-step, same-refuted, same-end}
 use Rattle.lines.proofs.reading.same.Statement.{statement}
 use Rattle.lines.proofs.reading.same.Tie as tie
 

@@ -6,7 +6,7 @@ use lib.ListN.{length}
 use Rattle.lists.specs.Places.{at}
 use Rattle.lists.proofs.Overwrite.{Written, written-none, written-next, written-all}
 use Rattle.lists.proofs.Tabs.{is-tab}
-use Rattle.text.proofs.Parting.{below-at}
+use Rattle.field.proofs.Ranges.{below-at}
 use Rattle.text.proofs.reading.narrow.Statement.{statement}
 use Rattle.text.proofs.reading.narrow.Tie as tie
 

@@ -15,7 +15,8 @@ use Rattle.plan.specs.Numbers.{radixCauses}
 use Rattle.plan.proofs.Refusals.{result-refused}
 use Rattle.lines.specs.Lines.{asks, numbers}
 use Rattle.text.specs.Meaning.{radicesCauses}
-use Rattle.text.proofs.Parting.{below-more, radices-thirteen, radices-two, radices-narrow}
+use Rattle.field.proofs.Ranges.{below-more}
+use Rattle.text.proofs.Parting.{radices-thirteen, radices-two, radices-narrow}
 use Rattle.text.proofs.reading.read_radices.Statement.{statement}
 use Rattle.text.proofs.reading.read_radices.Tie as tie
 
