@@ -12,3 +12,4 @@ pub mod Figures
 pub mod Keeping
 pub mod Scanlines
 pub mod ListingsBack
+pub mod Exactly

@@ -7,13 +7,12 @@
 --     answer-early                the answer for a plan that is not admitted
 -- Assumes nothing.
 use mathlib.Core.Path.{_≡_, refl, sym, ap, ap₂, _∙_}
-use mathlib.Core.Bool.{Bool, true, false, cond, not, _&&_, true≢false}
+use mathlib.Core.Bool.{Bool, true, false, cond, true≢false}
 use mathlib.Core.List.{List, [], _∷_}
 use Prim.Native.Nat.{ℕ, zero, suc, _+_, _*_, _≤_, _<_}
 use native.Mathlib.Omega.{arith}
-use lib.Dec.{eqb}
 use lib.ListN.{length}
-use borrow.Author.Tests.{eq-eqb, ne-eqb}
+use borrow.Author.Tests.{ne-eqb}
 use Rattle.lists.specs.Places.{same}
 use Rattle.lists.proofs.Tests.{refute, both, both-true}
 use Rattle.lists.proofs.Sameness.{same-refl, same-true}
@@ -21,7 +20,7 @@ use Rattle.field.specs.Residues.{Residues}
 use Rattle.field.specs.Rows.{allBelow}
 use Rattle.field.proofs.Ranges.{residues-of, below-of}
 use Rattle.plan.specs.declared.numbers.Plan.{Plan}
-use Rattle.plan.specs.Numbers.{Within, columns}
+use Rattle.plan.specs.Numbers.{Within}
 use Rattle.plan.specs.declared.admission.Own.the-variants.{Row}
 use Rattle.plan.specs.Causes.{first}
 use Rattle.plan.specs.Parts.{Given, callCauses}

@@ -1,6 +1,6 @@
 -- `readback::calls::read_listing` meets its contract: what `admit` refuses, else what the text says. Assumes nothing.
-use mathlib.Core.Path.{_≡_, sym, ap, ap₂, subst, _∙_}
-use mathlib.Core.List.{List, []}
+use mathlib.Core.Path.{sym, ap, ap₂, subst, _∙_}
+use mathlib.Core.List.{[]}
 use Prim.Native.Nat.{ℕ, _<_}
 use lib.ListN.{length}
 use borrow.Author.Tests.{eqb-true}
@@ -9,7 +9,7 @@ use Rattle.plan.specs.declared.numbers.Plan.{Plan}
 use Rattle.plan.specs.declared.admission.Own.the-variants.{Row}
 use Rattle.plan.specs.Causes.{result}
 use Rattle.plan.specs.Numbers.{answerOf}
-use Rattle.plan.specs.Parts.{Given, given}
+use Rattle.plan.specs.Parts.{given}
 use Rattle.plan.proofs.Refusals.{result-refused}
 use Rattle.plan.proofs.Admitting.{Admitted, admission, turned-away}
 use Rattle.readback.specs.Recovery.{recovered}

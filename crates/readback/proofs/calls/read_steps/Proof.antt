@@ -1,7 +1,6 @@
 -- `readback::calls::read_steps` meets its contract: what `admit` refuses, else cause 15 (`Admitting` of plan), and only the last return has
 -- written beta. Assumes nothing.
 use mathlib.Core.Path.{_≡_, refl, sym, ap, _∙_}
-use mathlib.Core.Bool.{true}
 use mathlib.Core.List.{List, _++_}
 use Prim.Native.Nat.{ℕ, _≤_}
 use lib.ListN.{length, take, drop}

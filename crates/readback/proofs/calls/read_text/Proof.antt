@@ -1,9 +1,9 @@
 -- `readback::calls::read_text` meets its contract: what the lines say, what the steps say, and what the figures say (`ListingsBack`).
 -- Assumes nothing.
-use mathlib.Core.Path.{_≡_, refl, sym, ap, ap₂, subst, _∙_}
+use mathlib.Core.Path.{_≡_, sym, ap, ap₂, subst, _∙_}
 use mathlib.Core.Bool.{true, false}
 use mathlib.Core.List.{List, [], _∷_, _++_}
-use mathlib.Core.Logic.{_⊎_, inl, inr}
+use mathlib.Core.Logic.{inl, inr}
 use Prim.Native.Nat.{ℕ, _+_, _≤_, _<_}
 use native.Mathlib.Omega.{arith}
 use lib.ListN.{length, take, drop}
@@ -17,7 +17,7 @@ use Rattle.plan.proofs.Bounds.{prime-low}
 use Rattle.listing.specs.Printed.{figures}
 use Rattle.readback.specs.Recovery.{recovered, isWritten}
 use Rattle.readback.specs.Listings.{malformed, stepsIn, isListing, textAnswer, textLeft}
-use Rattle.readback.specs.Scanned.{figuresIn, Held, Lost, Kept, Scanned}
+use Rattle.readback.specs.Scanned.{figuresIn, Kept, Scanned}
 use Rattle.readback.specs.declared.scanning.Scan.{Scan}
 use Rattle.readback.proofs.Places.{recovered-length}
 use Rattle.readback.proofs.Arrays.{front-room, front-list, front-length, columns-few}
