@@ -331,7 +331,7 @@ fn read_steps(
     weights: &[u8],
     tables: &[u8],
     d: &[u8],
-    steps: &[u16],
+    steps: &mut [u16],
     beta: &mut [u8],
 ) {
     let answer = readback::read_steps(
@@ -503,10 +503,10 @@ pub fn with_program(
     }
 }
 
-// The calls 21 and 22, which read a program back. After the second the text is empty.
+// The calls 21 and 22, which read a program back.
 pub fn with_readback(
     k: usize,
-    held: &mut [usize; 17],
+    held: &[usize; 17],
     parts: &[[u8; 2048]; 6],
     beta: &mut [u8],
     steps: &mut [u16],
@@ -525,16 +525,15 @@ pub fn with_readback(
             lent_steps(steps, held[5]),
             lent(beta, held[16]),
         );
-        return;
+    } else {
+        read_listing(
+            held,
+            radices,
+            weights,
+            tables,
+            d,
+            front(&parts[0], held[8]),
+            lent(beta, held[16]),
+        );
     }
-    read_listing(
-        held,
-        radices,
-        weights,
-        tables,
-        d,
-        front(&parts[0], held[8]),
-        lent(beta, held[16]),
-    );
-    held[8] = 0;
 }

@@ -104,7 +104,11 @@ fn obey(
         0..=9 => set(k, args, held, parts, row, store, beta, steps),
         10..=15 => with_store(k, args, held, parts, row, store, beta),
         16..=20 => with_program(k, held, parts, beta, steps),
-        21 | 22 => with_readback(k, held, parts, beta, steps),
+        21 => with_readback(k, held, parts, beta, steps),
+        22 => {
+            with_readback(k, held, parts, beta, steps);
+            held[8] = 0;
+        }
         23 => print_text(held, parts, args[0]),
         24 => held[8] = append(&mut parts[0], held[8], line),
         _ => {}

@@ -54,12 +54,11 @@ module _ (v e : List ℕ) (count : ℕ) where
         }
 
     pub putting-all : length v ≤ i → (fits v (length e) count ≡ true) × (xs ≡ placed e count v)
-    putting-all full =
-        (
-          both (leb (count + length v) (length e)) (allBelow 65536 v) (le-leb (count + length v) (length e) room)
-              (every-of (λ j. ltb (at v j) 65536) (length v) (λ j l. lt-ltb (at v j) 65536 (p .narrow j (omega arith)))),
-          p .list ∙ ap (placed e count) (take-all i v full),
-        )
+    putting-all full = (
+      both (leb (count + length v) (length e)) (allBelow 65536 v) (le-leb (count + length v) (length e) room)
+          (every-of (λ j. ltb (at v j) 65536) (length v) (λ j l. lt-ltb (at v j) 65536 (p .narrow j (omega arith)))),
+      p .list ∙ ap (placed e count) (take-all i v full),
+    )
 
   pub short-room : length e < count + length v → fits v (length e) count ≡ false
   short-room h = rw (lt-leb (count + length v) (length e) h)

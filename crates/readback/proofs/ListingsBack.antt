@@ -52,8 +52,7 @@ module _ (P : Plan) (within : Within P) (w d : List ℕ) (hw : Residues (P .p) w
     printed-back text e =
         let whole = e ∙ listing-shown P w d β in
         let few = small-numbers 100000 (omega arith) in
-        let size = layout-length P w d β in
-        (
+        let size = layout-length P w d β in (
           ap malformed whole ∙ shown-fits (P .m + 2 * P .t) (stepCount P) (worst P w d β) (layout P w d β) (stepCount P) size small-figures few,
           ap figuresIn whole ∙ shown-figures (P .m + 2 * P .t) (stepCount P) (worst P w d β) (layout P w d β) (stepCount P) size small-figures few,
           ap stepsIn whole ∙ shown-steps (P .m + 2 * P .t) (stepCount P) (worst P w d β) (layout P w d β) (stepCount P) size small-figures few,
@@ -77,19 +76,19 @@ module _ (P : Plan) (within : Within P) (w d : List ℕ) (hw : Residues (P .p) w
     listing-lost steps count large lost =
         refute (isListing P w d text)
         (λ h.
-            let parts = listing-parts h in
-            let few = ap length (parts .1) ∙ layout-length P w d found in
-            let narrow = below-of 65536 (layout P w d found) (small-numbers found (residues (parts .0)) 65536 (omega arith)) in
-            lost .unfit (omega (arith, large, few, step-limit P within)) (ap (allBelow 65536) (parts .1) ∙ narrow))
+        let parts = listing-parts h in
+        let few = ap length (parts .1) ∙ layout-length P w d found in
+        let narrow = below-of 65536 (layout P w d found) (small-numbers found (residues (parts .0)) 65536 (omega arith)) in
+        lost .unfit (omega (arith, large, few, step-limit P within)) (ap (allBelow 65536) (parts .1) ∙ narrow))
 
     pub listing-unwritten : isWritten P w d (stepsIn text) ≡ false → isListing P w d text ≡ false
     unfolding isWritten
     listing-unwritten h =
         refute (isListing P w d text)
         (λ l.
-            let parts = listing-parts l in
-            let again = ap (same (stepsIn text)) (sym (parts .1)) ∙ same-refl (stepsIn text) in
-            true≢false (sym (both (allBelow (P .p) found) (same (stepsIn text) (layout P w d found)) (parts .0) again) ∙ h))
+        let parts = listing-parts l in
+        let again = ap (same (stepsIn text)) (sym (parts .1)) ∙ same-refl (stepsIn text) in
+        true≢false (sym (both (allBelow (P .p) found) (same (stepsIn text) (layout P w d found)) (parts .0) again) ∙ h))
 
     pub listing-figures : same (figuresIn text) (figures P w d found) ≡ false → isListing P w d text ≡ false
     listing-figures h =
@@ -101,9 +100,9 @@ module _ (P : Plan) (within : Within P) (w d : List ℕ) (hw : Residues (P .p) w
     listing-whole good written right =
         let b = both-true (allBelow (P .p) found) (same (stepsIn text) (layout P w d found)) written in
         let whole : text ≡ listing P w d found =
-            text-shown text good
-            ∙ ap₂ shown (same-true (figuresIn text) (figures P w d found) right) (same-true (stepsIn text) (layout P w d found) (b .1))
-            ∙ sym (listing-shown P w d found) in
+        text-shown text good
+        ∙ ap₂ shown (same-true (figuresIn text) (figures P w d found) right) (same-true (stepsIn text) (layout P w d found) (b .1))
+        ∙ sym (listing-shown P w d found) in
         both (allBelow (P .p) found) (same text (listing P w d found)) (b .0) (ap (same text) (sym whole) ∙ same-refl text)
 
 -- the answer, and what is left in β

@@ -122,8 +122,7 @@ module _ (P : Plan) (steps : List ℕ) where
   pub rows-all : {e found : List ℕ} {b : ℕ} → Rows P steps e b found → b ≡ P .t + 1 → (allBelow (P .p) (recovered P steps) ≡ true) × (found ≡ recovered P steps)
   unfolding recovered
   rows-all {e} {found} {b} r h =
-      let all = ap (joined (rowOf P steps)) h in
-      (
+      let all = ap (joined (rowOf P steps)) h in (
         sym (ap (allBelow (P .p)) all) ∙ r .residues,
         r .list ∙ placed-whole e (joined (rowOf P steps) b) (omega (arith, ap (λ (k : ℕ). k * variables P) h, rows-size b, r .entry)) ∙ all,
       )

@@ -117,7 +117,7 @@ module _ {text : List ℕ} {from : ℕ} {steps : List ℕ} {at j count : ℕ} (s
   scanning-end h =
       let none : piece 10 text at ≡ [] = piece-past 10 text at h in
       let last : piecesFrom 10 text at ≡ [] ∷ [] =
-          pieces-step 10 text at (s .inside) ∙ rw none (ap (λ (ps : List (List ℕ)). [] ∷ ps) (pieces-past 10 text (at + 0 + 1) (omega (arith, h)))) in
+      pieces-step 10 text at (s .inside) ∙ rw none (ap (λ (ps : List (List ℕ)). [] ∷ ps) (pieces-past 10 text (at + 0 + 1) (omega (arith, h)))) in
       let all : s .read ≡ stepNumbers (piecesFrom 10 text from) = sym (s .done ∙ ap (λ (ps : List (List ℕ)). s .read ++ stepNumbers ps) last ∙ append-nil (s .read)) in
       (s .decides ∙ ap (badLine j) last ∙ rw (lt-ltb 3 j (s .late)), rw (sym all) (s .kept))
 
@@ -144,9 +144,8 @@ module _ (text : List ℕ) (a b c : ℕ) (ha : a ≡ 0 + length (piece 10 text 0
   pub head-good : (r : Scan) (figures steps : List ℕ) → malformed text ≡ badLine 4 (piecesFrom 10 text (c + 1)) → figures ≡ numbers (piece 10 text (a + 1))
       → StepsScanned r text (c + 1) steps → Scanned r text figures steps
   head-good (Malformed j) figures steps e f h = (e ∙ h .0, h .1)
-  head-good (Whole count) figures steps e f h =
-      (
-        e ∙ h .0,
-        f ∙ sym (ap (λ (ps : List (List ℕ)). numbers (front (drop 1 ps))) head-pieces),
-        rw steps-are (h .1),
-      )
+  head-good (Whole count) figures steps e f h = (
+    e ∙ h .0,
+    f ∙ sym (ap (λ (ps : List (List ℕ)). numbers (front (drop 1 ps))) head-pieces),
+    rw steps-are (h .1),
+  )

@@ -95,7 +95,7 @@ steps-read (suc n) j (a ∷ b ∷ c ∷ f ∷ ns) e h small =
     let first : Residues 100000 quad = fronts in
     let rest = steps-read n (suc j) ns (omega arith) (omega arith) (λ i. small (suc (suc (suc (suc i))))) in
     let cut : cutAt 10 (shownSteps (quad ++ ns)) ≡ spaced quad ∷ cutAt 10 (shownSteps ns) =
-        ap (cutAt 10) (shown-next a b c f ns ∙ line-then quad (shownSteps ns)) ∙ cut-at 10 (spaced quad) (shownSteps ns) (lacks-spaced 4 (omega arith) a (b ∷ c ∷ f ∷ []) first) in
+    ap (cutAt 10) (shown-next a b c f ns ∙ line-then quad (shownSteps ns)) ∙ cut-at 10 (spaced quad) (shownSteps ns) (lacks-spaced 4 (omega arith) a (b ∷ c ∷ f ∷ []) first) in
     record {
       fit =
           ap (badLine j) cut

@@ -119,7 +119,7 @@ module _ (G : Given) (accepted : first (checkCauses G) ≡ 0) (steps β₀ : Lis
             let fits = eq-eqb (length β) (columns P) places in
             let size : 4 * stepCount P ≤ length out = omega (arith, l, sym (layout-length P (G .weights) (G .products) β) ∙ ap length (written .list)) in
             let none : first (writeCauses G β out) ≡ 0 =
-                accepted-call G accepted (Row (length β)) (writeOwn β (length out)) fits ∙ rw (below-of (P .p) β (written .residues), le-ltb (length out) (4 * stepCount P) size) in
+            accepted-call G accepted (Row (length β)) (writeOwn β (length out)) fits ∙ rw (below-of (P .p) β (written .residues), le-ltb (length out) (4 * stepCount P) size) in
             rw none (written .list);
         only = λ γ h. sym (written-one G steps γ h);
       })

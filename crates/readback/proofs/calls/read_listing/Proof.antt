@@ -58,8 +58,7 @@ returns-2 c =
     let r = read .before .before .before in
     let a = admitted r in
     let s = start r .args in
-    let own = sym (a .rest _) in
-    (
+    let own = sym (a .rest _) in (
       read .read-text .ensures .0 ∙ ap (λ (k : ℕ). (k, lineOf k (s .text .now))) own,
       read .read-text .ensures .1
           ∙ ap₂ (λ (k : ℕ) (Q : Plan). result k (recovered Q (stepsIn (s .text .now))) (s .beta .now)) own (sym (a .same)),

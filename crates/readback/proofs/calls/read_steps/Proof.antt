@@ -111,8 +111,7 @@ returns-3 c =
     let copied = c .before .before in
     let r = copied .before .before .before in
     let a = admitted (planned r) in
-    let is-written = r .before .before .is-written in
-    (
+    let is-written = r .before .before .is-written in (
       sym (a .rest _ ∙ rw (sym (is-written .ensures .0) ∙ not-false (is-written .result) (r .if1 .left))),
       copied .copy .ensures ∙ front r _ ∙ ap (λ (Q : Plan). recovered Q (start (planned r) .args .steps .now)) (sym (a .same)),
     )

@@ -10,7 +10,7 @@ use lib.Seq.{length-take-le}
 use borrow.Author.Tests.{not-true, not-false}
 use Rattle.lists.specs.Places.{same}
 use Rattle.plan.specs.declared.numbers.Plan.{Plan}
-use Rattle.program.specs.Layout.{layout}
+use Rattle.program.specs.Layout.{layout, stepCount}
 use Rattle.program.proofs.Fronts.{program-room, program-fits, program-front, program-written, program-length}
 use Rattle.readback.specs.Recovery.{recovered}
 use Rattle.readback.proofs.Places.{recovered-length}
@@ -64,10 +64,13 @@ returns : tie.Need-returns
 returns c =
     let r = c .before in
     let a = start r .args in
-    (sym (written-unlike (a .plan) (a .weights .now) (a .d .now) (a .steps .now) (λ e. c .if1 .taken (e ∙ ap (λ (k : ℕ). 4 * k) (sym (r .step-count .ensures))))), λ e. absurd (false≢true e))
+    (sym (written-unlike (a .plan) (a .weights .now) (a .d .now) (a .steps .now) (λ e. omega (arith, e, c .if1 .taken, r .step-count .ensures))), λ e. absurd (false≢true e))
 
 recover-requires : tie.Need-recover-requires
-recover-requires c κs = search needs
+recover-requires c κs =
+    let r = c .before .before in
+    let whole : length (start r .args .steps .now) ≡ 4 * stepCount (start r .args .plan) = omega (arith, c .before .if1 .left, r .step-count .ensures) in
+    (start r .pre .0, (whole, start r .pre .1 .1 .1))
 
 same-length : tie.Need-same-length
 same-length c = search needs
@@ -117,8 +120,7 @@ returns-3 c =
     let e = r .before in
     let a = start (counted e) .args in
     let again = program-written _ _ (program e) _ (fits r) (filled e) (c .before .before .before .put-program .ensures) in
-    let below = sym (e .before .before .before .recover .ensures .0) ∙ all-residues e in
-    (
+    let below = sym (e .before .before .before .recover .ensures .0) ∙ all-residues e in (
       c .same-numbers .ensures
           ∙ ap (same (steps e)) (again ∙ ap (layout (plan e) (a .weights .now) (a .d .now)) (read e))
           ∙ sym (written-as (plan e) (a .weights .now) (a .d .now) (steps e) below),

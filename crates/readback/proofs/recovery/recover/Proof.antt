@@ -34,12 +34,16 @@ start c = c .before .before .before .before
 abbrev size : tie.At-loop Inv-loop μ-loop → ℕ
 size c = c .before .variables .result
 
+-- there is a row b
+is-row : (c : tie.Then1 Inv-loop μ-loop) → turn c .loop .b ≤ start (turn c) .args .plan .t
+is-row c = omega (arith, c .if1 .taken)
+
 -- row b fits in the list
 room : (c : tie.Then1 Inv-loop μ-loop) → turn c .loop .from + size (turn c) ≤ length (turn c .loop .found)
 room c =
     let loop = turn c .loop in
     let P = start (turn c) .args .plan in
-    omega (arith, loop .inv .1, loop .inv .0 .size, turn c .before .variables .ensures, mul-le-mul-right (variables P) (c .if1 .taken))
+    omega (arith, loop .inv .1, loop .inv .0 .size, turn c .before .variables .ensures, mul-le-mul-right (variables P) (is-row c))
 
 abbrev row : tie.After-recover-row Inv-loop μ-loop → List ℕ
 row c = c .recover-row .last .1 .1 .1 .0
@@ -78,7 +82,7 @@ loop-holds c =
     (rows-none (s .args .plan) (s .args .steps .now) (s .args .found .now) (s .pre .1 .1), omega arith, omega arith)
 
 coefficient-step-requires : tie.Need-coefficient-step-requires Inv-loop μ-loop
-coefficient-step-requires c κs = (start (turn c) .pre .0, c .if1 .taken)
+coefficient-step-requires c κs = (start (turn c) .pre .0, is-row c)
 
 add-end : tie.Need-add-end Inv-loop μ-loop
 add-end c = omega (arith, room (c .before))
@@ -98,7 +102,7 @@ recover-row-requires c κs =
     let r = turn then in
     let P = start r .args .plan in
     let part = cut-length (r .loop .found) (r .loop .from) (size r) (room then) in
-    omega (arith, part, r .before .variables .ensures, c .before .coefficient-step .ensures, row-room P (r .loop .b) (then .if1 .taken), start r .pre .1 .0)
+    omega (arith, part, r .before .variables .ensures, c .before .coefficient-step .ensures, row-room P (r .loop .b) (is-row then), start r .pre .1 .0)
 
 same-length : tie.Need-same-length Inv-loop μ-loop
 same-length c =
@@ -111,7 +115,7 @@ returns c =
     let called = c .before .before .before in
     let r = at-turn called in
     let none = sym (read called) ∙ not-true (called .recover-row .result) (c .if2 .taken) in
-    (sym (rows-refuted (start r .args .plan) (start r .args .steps .now) (r .loop .b) (called .before .before .before .if1 .taken) none), λ e. absurd (false≢true e))
+    (sym (rows-refuted (start r .args .plan) (start r .args .steps .now) (r .loop .b) (is-row (called .before .before .before)) none), λ e. absurd (false≢true e))
 
 add-b : tie.Need-add-b Inv-loop μ-loop
 add-b c = omega arith
@@ -127,12 +131,11 @@ loop-again c =
     let inv = r .loop .inv in
     let yes = not-false (called .recover-row .result) (c .if2 .left) in
     let list = called .recover-row .ensures .1 yes ∙ asked called in
-    let place : r .loop .from ≡ r .loop .b * variables (a .plan) = inv .1 in
-    (
-      rows-next (a .plan) (a .steps .now) (inv .0) _ (called .before .before .before .if1 .taken) (ap length (back called .0) ∙ back called .1 ∙ inv .0 .size)
+    let place : r .loop .from ≡ r .loop .b * variables (a .plan) = inv .1 in (
+      rows-next (a .plan) (a .steps .now) (inv .0) _ (is-row (called .before .before .before)) (ap length (back called .0) ∙ back called .1 ∙ inv .0 .size)
           (back called .0 ∙ ap₂ (placed (r .loop .found)) place list) (sym (read called) ∙ yes),
       omega (arith, place, r .before .variables .ensures),
-      omega (arith, called .before .before .before .if1 .taken),
+      omega (arith, is-row (called .before .before .before)),
     )
 
 same-length-2 : tie.Need-same-length-2 Inv-loop μ-loop

@@ -50,7 +50,10 @@ returns : tie.Need-returns Inv-loop μ-loop
 returns c =
     let loop = c .before .before .before .loop in
     let args = c .before .before .before .before .args in
-    (sym (row-refuted (args .p) (length (args .row .now)) (λ j. byOf (args .steps .now) (args .begin + j)) (loop .j) (omega (arith, loop .inv .0 .same, c .before .before .loop-test .taken)) (c .if1 .taken)), λ e. absurd (false≢true e))
+    let weight : ℕ → ℕ = (λ k. byOf (args .steps .now) (args .begin + k)) in
+    let inside : loop .j < length (args .row .now) = omega (arith, loop .inv .0 .same, c .before .before .loop-test .taken) in
+    let wide : args .p ≤ weight (loop .j) = omega (arith, c .if1 .taken) in
+    (sym (row-refuted (args .p) (length (args .row .now)) weight (loop .j) inside wide), λ e. absurd (false≢true e))
 
 cast-row : tie.Need-cast-row Inv-loop μ-loop
 cast-row c = omega (arith, c .if1 .left)
@@ -68,11 +71,13 @@ loop-again : tie.Need-loop-again Inv-loop μ-loop
 loop-again c =
     let loop = c .before .before .before .loop in
     let args = c .before .before .before .before .args in
-    let here : byOf (args .steps .now) (args .begin + loop .j) < args .p = omega (arith, c .if1 .left) in
-    (written-next _ (loop .inv .0) (omega (arith, loop .inv .0 .same, c .before .before .loop-test .taken)) refl, λ k l. elim (ℕ-discrete k (loop .j)) [
-      | yes e ↦ rw e here
-      | no d ↦ loop .inv .1 k (omega arith)
-    ])
+    let here : byOf (args .steps .now) (args .begin + loop .j) < args .p = omega (arith, c .if1 .left) in (
+      written-next _ (loop .inv .0) (omega (arith, loop .inv .0 .same, c .before .before .loop-test .taken)) refl,
+      λ k l. elim (ℕ-discrete k (loop .j)) [
+        | yes e ↦ rw e here
+        | no d ↦ loop .inv .1 k (omega arith)
+      ],
+    )
 
 same-length-2 : tie.Need-same-length-2 Inv-loop μ-loop
 same-length-2 c = c .before .loop .inv .0 .same

@@ -14,6 +14,9 @@ Inv-loop xs ys i₀ i = (i ≤ length xs) × (same xs ys ≡ same (drop i xs) (d
 abbrev μ-loop : tie.MeasureT-loop
 μ-loop xs ys i₀ i = length xs - i
 
+abbrev start : tie.At-loop Inv-loop μ-loop → tie.Start Inv-loop μ-loop
+start c = c .before .before
+
 returns : tie.Need-returns Inv-loop μ-loop
 returns c = sym (same-unlike _ _ (c .if1 .taken))
 
@@ -35,7 +38,8 @@ shared-slice-read-if2-2 c = omega arith
 returns-2 : tie.Need-returns-2 Inv-loop μ-loop
 returns-2 c =
     let loop = c .before .before .before .before .loop in
-    sym (loop .inv .1 ∙ same-refuted _ _ _ (c .before .before .before .loop-test .taken) (omega arith) (c .if2 .taken))
+    let s = start (c .before .before .before .before) .args in
+    sym (loop .inv .1 ∙ same-refuted (s .xs .now) (s .ys .now) (loop .i) (omega arith) (omega arith) (c .if2 .taken))
 
 add-i : tie.Need-add-i Inv-loop μ-loop
 add-i c = omega arith
@@ -46,10 +50,14 @@ loop-less c = omega arith
 loop-again : tie.Need-loop-again Inv-loop μ-loop
 loop-again c =
     let loop = c .before .before .before .before .loop in
-    (omega arith, loop .inv .1 ∙ same-step _ _ _ (c .before .before .before .loop-test .taken) (omega arith) (c .if2 .left))
+    let s = start (c .before .before .before .before) .args in
+    (omega arith, loop .inv .1 ∙ same-step (s .xs .now) (s .ys .now) (loop .i) (omega arith) (omega arith) (c .if2 .left))
 
 returns-3 : tie.Need-returns-3 Inv-loop μ-loop
-returns-3 c = sym (c .before .loop .inv .1 ∙ same-end _ _ _ (c .before .before .if1 .left) (c .loop-test .left))
+returns-3 c =
+    let loop = c .before .loop in
+    let s = start (c .before) .args in
+    sym (loop .inv .1 ∙ same-end (s .xs .now) (s .ys .now) (loop .i) (c .before .before .if1 .left) (omega arith))
 
 pub same-numbers-spec : {M : Type 1} → statement M
 same-numbers-spec =

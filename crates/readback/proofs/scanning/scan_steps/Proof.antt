@@ -124,8 +124,7 @@ loop-again c =
     let s = r .before .before .loop .inv in
     let yes = not-false (read .read-line .result) (c .before .before .before .before .before .if2 .left) in
     let keep = c .before .before .keep-step in
-    let kept = kept-next (s .0 .read) (read .read-line .last .1 .1 .0) _ (keep .last .1 .0) _ (keep .result) (keep .kept .1 .0) (keep .ensures .0) (keep .ensures .1) (s .0 .kept) in
-    (
+    let kept = kept-next (s .0 .read) (read .read-line .last .1 .1 .0) _ (keep .last .1 .0) _ (keep .result) (keep .kept .1 .0) (keep .ensures .0) (keep .ensures .1) (s .0 .kept) in (
       scanning-next (s .0) _ (r .piece-end .ensures) (whole (read .before .before .before)) (sym (fits read) ∙ yes) _ _
           (subst (λ (v : List ℕ). Kept (s .0 .read ++ v) (keep .last .1 .0) (keep .result)) (found read yes) kept),
       keep .kept .1 .0 ∙ s .1,
