@@ -313,8 +313,8 @@ uint8_t celery_worst_norm(CELERY_PLAN, const uint8_t *beta, size_t beta_len,
  *          matter.
  * Causes:  1 2 3 4 5, 15.
  * Writes:  all of beta.
- * Cost:    one pass over steps; then the program is written once more and
- *          compared. About 40,000 bytes of stack.
+ * Cost:    the program is written once more, and compared with steps in one
+ *          pass. About 36,000 bytes of stack.
  */
 uint8_t celery_read_steps(CELERY_PLAN, const uint16_t *steps, size_t steps_len,
                           uint8_t *beta, size_t beta_len);
@@ -343,10 +343,10 @@ uint8_t celery_read_steps(CELERY_PLAN, const uint16_t *steps, size_t steps_len,
  * Causes:  1 2 3 4 5, 13, 15.
  * Writes:  all of beta, where the call accepts. *line, where it refuses with 13
  *          or 15; else it stays as it was.
- * Cost:    one pass over the text to judge its lines, then what
- *          celery_read_steps costs, and the text is compared line by line with
- *          what would be printed, for which there is no buffer of its size.
- *          About 80,000 bytes of stack.
+ * Cost:    one pass over the text, which judges its lines and reads their
+ *          numbers; then what celery_read_steps and celery_worst_norm cost.
+ *          Nothing is printed again: a number has one way to be written, so the
+ *          numbers tell the text. About 71,000 bytes of stack.
  */
 uint8_t celery_read_listing(CELERY_PLAN, const uint8_t *text, size_t text_len,
                             uint8_t *beta, size_t beta_len, size_t *line);

@@ -66,7 +66,7 @@ fn print_end(
     requires { ⌜ SoundState (stateOf state (now line) (now radices) (now weights) (now tables) (now d) (now store)) ⌝ }
     requires { ⌜ 1024 ≤ length (now line) ⌝ }
     requires { ⌜ BufferSizes (now radices) (now weights) (now tables) (now d) (now store) ⌝ }
-    requires { ⌜ (20000 ≤ length (now steps)) × (131072 ≤ length (now out)) ⌝ }
+    requires { ⌜ (17228 ≤ length (now steps)) × (131072 ≤ length (now out)) ⌝ }
     ensures { λ _. ⌜ now (out .exit) ≡ placed (now (out .entry)) 0 (streaming.finish (stateOf state (now (line .entry)) (now (radices .entry)) (now (weights .entry)) (now (tables .entry)) (now (d .entry)) (now (store .entry)))) ⌝ }
 {
     let end = text::finish(state, line, radices, weights, tables, d, store, steps, out);
@@ -89,7 +89,7 @@ fn run(
 ) -> Input
     requires { ⌜ (0 < length (now chunk)) × (length (now chunk) ≤ 65536) × (1024 ≤ length (now line)) ⌝ }
     requires { ⌜ BufferSizes (now radices) (now weights) (now tables) (now d) (now store) ⌝ }
-    requires { ⌜ (20000 ≤ length (now steps)) × (131072 ≤ length (now out)) ⌝ }
+    requires { ⌜ (17228 ≤ length (now steps)) × (131072 ≤ length (now out)) ⌝ }
     ensures { λ r. ⌜ Printed (r .count) (r .last) (now (out .entry)) (now (out .exit)) ⌝ }
 {
     let input = read_all(chunk, line, radices, weights, tables, d, store);

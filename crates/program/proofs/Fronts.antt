@@ -14,10 +14,10 @@ use Rattle.plan.specs.Numbers.{Within}
 use Rattle.program.specs.Layout.{layout, stepCount}
 use Rattle.program.proofs.Shape.{layout-length, step-limit}
 
-pub program-room : (P : Plan) (n : ℕ) → Within P → n ≡ stepCount P → (4 * n ≤ 20000) × ((w d β : List ℕ) → length (layout P w d β) ≡ 4 * n)
+pub program-room : (P : Plan) (n : ℕ) → Within P → n ≡ stepCount P → (4 * n ≤ 17228) × ((w d β : List ℕ) → length (layout P w d β) ≡ 4 * n)
 program-room P n within e = (omega (arith, step-limit P within), λ w d β. layout-length P w d β ∙ ap (λ (k : ℕ). 4 * k) (sym e))
 
-pub program-fits : (P : Plan) (n : ℕ) {k : ℕ} → Within P → n ≡ stepCount P → 20000 ≤ k → 4 * n ≤ k
+pub program-fits : (P : Plan) (n : ℕ) {k : ℕ} → Within P → n ≡ stepCount P → 17228 ≤ k → 4 * n ≤ k
 program-fits P n within e h = omega (arith, program-room P n within e .0)
 
 -- a slice whose front of k places has been lent and filled

@@ -2,14 +2,15 @@
 --     layout-length          4 times the step count
 --     layout-wellFormed      none of the conditions of cause 11, where weights, d and β are residues
 --     layout-bootstraps      m + 2t
---     step-limit             a checked plan has at most 5,000 steps
+--     step-limit             a checked plan has at most 4,307 steps: one digit, 63 links and 15 products have so many
 --     link-length, product-length, adds-length       the lengths of its pieces
 -- Assumes nothing.
 use mathlib.Core.Path.{_≡_, refl, _∙_}
 use mathlib.Core.Bool.{true}
 use mathlib.Core.List.{List}
 use Prim.Native.Nat.{ℕ, zero, suc, _+_, _-_, _*_, _/_, _≤_, _<_}
-use native.Mathlib.Nat.{le-refl, mul-le-mul}
+use native.Mathlib.Nat.{le-refl, mul-le-mul, mul-le-mul-right}
+use native.Mathlib.Decide.{decLt}
 use native.Mathlib.Omega.{arith}
 use lib.ListN.{length, length-append}
 use borrow.Author.Tests.{le-leb, lt-ltb}
@@ -167,9 +168,19 @@ module _ (P : Plan) where
         (good-then P (good-joined P (productSteps P d β) (P .t) (λ i h. good-product i))
         (good-adds (variables P + 4) (λ j. at β (P .t * variables P + j)) (variables P) (le-refl (variables P + 4)) (omega arith) (λ j. residues-β (P .t * variables P + j))))))
 
--- 2mn + m² is below L², and t(2L + 12) is below 2C + 12t
-pub step-limit : (P : Plan) → Within P → stepCount P ≤ 5000
+-- 2mn + m² is L² - n², and t(2L + 12) is at most 2C - 2L + 12t; with more than 15 products there are at most 60 variables
+pub step-limit : (P : Plan) → Within P → stepCount P ≤ 4307
 unfolding stepCount
 step-limit P within =
-    let whole : (P .n + P .m) * (P .n + P .m) ≤ 64 * 64 = mul-le-mul (within .variable-limit) (within .variable-limit) in
-    omega (arith, whole, one-less (P .m), within .column-limit, within .products-limit, within .variable-limit)
+    let L : ℕ = P .n + P .m in
+    let some : 1 * 1 ≤ P .n * P .n = mul-le-mul (within .digit-count) (within .digit-count) in
+    elim (decLt (P .t) 16) [
+      | yes few ↦
+          let square : L * L ≤ 64 * 64 = mul-le-mul (within .variable-limit) (within .variable-limit) in
+          omega (arith, square, some, few, one-less (P .m), within .column-limit, within .variable-limit, within .digit-count)
+      | no many ↦
+          let wide : 17 * L ≤ (P .t + 1) * L = mul-le-mul-right L (omega arith) in
+          let narrow : L ≤ 60 = omega (arith, wide, within .column-limit) in
+          let square : L * L ≤ 60 * 60 = mul-le-mul narrow narrow in
+          omega (arith, square, narrow, some, one-less (P .m), within .column-limit, within .products-limit, within .digit-count)
+    ]

@@ -72,7 +72,7 @@ module _ (P : Plan) (within : Within P) (w d : List ℕ) (hw : Residues (P .p) w
         let back = printed-back found (residues (b .0)) text (same-true text (listing P w d found) (b .1)) in
         (b .0, back .2, back .1)
 
-    pub listing-lost : (steps : List ℕ) (count : ℕ) → 20000 ≤ length steps → Lost (stepsIn text) steps count → isListing P w d text ≡ false
+    pub listing-lost : (steps : List ℕ) (count : ℕ) → 17228 ≤ length steps → Lost (stepsIn text) steps count → isListing P w d text ≡ false
     listing-lost steps count large lost =
         refute (isListing P w d text)
         (λ h.

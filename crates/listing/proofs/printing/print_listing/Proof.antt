@@ -28,7 +28,7 @@ module _ (c : tie.After-worst) where
   counted : length steps / 4 ≡ stepCount (start c .args .plan)
   counted = step-count (start c .args .plan) (start c .args .weights .now) (start c .args .d .now) (start c .args .beta .now) steps (start c .pre .1 .1 .1 .1 .0)
 
-  few : length steps / 4 ≤ 5000
+  few : length steps / 4 ≤ 4307
   few = rw counted (step-limit (start c .args .plan) (start c .pre .0))
 
   small : (i : ℕ) → at steps i < 1000

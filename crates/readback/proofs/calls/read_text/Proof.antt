@@ -54,7 +54,7 @@ module _ (c : tie.After-scan-text) where
   abbrev read-steps : List ℕ
   read-steps = c .scan-text .last .1 .1 .0
 
-  large : length read-steps ≡ 20000
+  large : length read-steps ≡ 17228
   large = c .scan-text .kept .1 .1 .0 ∙ sym (c .before .before .before .steps-buffer .ensures .0)
 
 -- where no line is malformed
@@ -73,7 +73,7 @@ module _ (c : tie.After-count) where
   refused f = answer-refused (P (scanned c)) (w (scanned c)) (d (scanned c)) (text (scanned c)) (beta (scanned c)) (known .0) f
 
   -- where the steps do not fit
-  lost : 20000 < count → Kept (stepsIn (text (scanned c))) (read-steps (scanned c)) count → isListing (P (scanned c)) (w (scanned c)) (d (scanned c)) (text (scanned c)) ≡ false
+  lost : 17228 < count → Kept (stepsIn (text (scanned c))) (read-steps (scanned c)) count → isListing (P (scanned c)) (w (scanned c)) (d (scanned c)) (text (scanned c)) ≡ false
   lost l (inl k) = absurd (omega (arith, l, k .room, large (scanned c)))
   lost l (inr k) =
       let pre = start (scanned c) .pre in

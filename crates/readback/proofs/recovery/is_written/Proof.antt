@@ -51,7 +51,7 @@ module _ (c : tie.Else2) where
 fits : (c : tie.After-steps-buffer) → 4 * counted (c .before) .step-count .result ≤ length (c .steps-buffer .result)
 fits c =
     let at-count = counted (c .before) in
-    let large : 20000 ≤ length (c .steps-buffer .result) = omega (arith, c .steps-buffer .ensures .0) in
+    let large : 17228 ≤ length (c .steps-buffer .result) = omega (arith, c .steps-buffer .ensures .0) in
     program-fits (plan (c .before)) (at-count .step-count .result) (start at-count .pre .0) (at-count .step-count .ensures) large
 
 step-count-requires : tie.Need-step-count-requires
