@@ -2,8 +2,8 @@
 --     first-other, second-other      two lists of three numbers that differ in the first, or in the second
 --     third-same                     two that agree in both are the same exactly when they agree in the third
 -- Assumes nothing.
-use mathlib.Core.Path.{_≡_, refl, sym, ap, _∙_}
-use mathlib.Core.Bool.{Bool, true, false, _&&_}
+use mathlib.Core.Path.{_≡_, sym, ap, _∙_}
+use mathlib.Core.Bool.{Bool, false, _&&_, and-true}
 use mathlib.Core.List.{List, [], _∷_}
 use Prim.Native.Nat.{ℕ}
 use native.Mathlib.Omega.{arith}
@@ -18,15 +18,11 @@ module _ (xs : List ℕ) (a b c : ℕ) where
   unfolding same
   by-places e = three xs e
     where
-      with-true : (t : Bool) → (t && true) ≡ t
-      with-true true = refl
-      with-true false = refl
-
       three : (ys : List ℕ) → length ys ≡ 3 → same ys (a ∷ b ∷ c ∷ []) ≡ (eqb (at ys 0) a && (eqb (at ys 1) b && eqb (at ys 2) c))
       three [] h = absurd (omega arith)
       three (x ∷ []) h = absurd (omega arith)
       three (x ∷ y ∷ []) h = absurd (omega arith)
-      three (x ∷ y ∷ z ∷ []) h = ap (λ (t : Bool). eqb x a && (eqb y b && t)) (with-true (eqb z c))
+      three (x ∷ y ∷ z ∷ []) h = ap (λ (t : Bool). eqb x a && (eqb y b && t)) (and-true (eqb z c))
       three (x ∷ y ∷ z ∷ u ∷ ys) h = absurd (omega arith)
 
   pub first-other : length xs ≡ 3 → (at xs 0 ≡ a → ⊥) → same xs (a ∷ b ∷ c ∷ []) ≡ false

@@ -73,21 +73,22 @@ fn recover(plan: Plan, steps: &[u16], found: &mut [u8]) -> bool
     true
 }
 
-// Whether two lists of numbers are equal.
+// Whether two lists of numbers are equal. They are compared to the end: without a way out, several places are compared at once.
 fn same_numbers(xs: &[u16], ys: &[u16]) -> bool
     ensures { λ r. ⌜ r ≡ same (now (xs .entry)) (now (ys .entry)) ⌝ }
 {
     if xs.len() != ys.len() {
         return false;
     }
+    let mut equal = true;
     let mut i = 0;
     while i < xs.len() {
         if xs[i] != ys[i] {
-            return false;
+            equal = false;
         }
         i += 1;
     }
-    true
+    equal
 }
 
 // Whether the coefficients that stand in the list, written again, give the list. They are left in `found`; where they do not, what stands

@@ -1,6 +1,9 @@
--- `readback::recovery::same_numbers` meets its contract: the lists are equal exactly when they are from place i on. Assumes nothing.
-use mathlib.Core.Path.{_≡_, refl, sym, _∙_}
-use Prim.Native.Nat.{_-_, _≤_}
+-- `readback::recovery::same_numbers` meets its contract: the lists are equal exactly when no difference was met before place i and they are equal
+-- from there on. Assumes nothing.
+use mathlib.Core.Path.{_≡_, refl, sym, ap, _∙_}
+use mathlib.Core.Bool.{Bool, _&&_, and-false, and-true}
+use mathlib.Core.Logic.{⊎-elim}
+use Prim.Native.Nat.{_+_, _-_, _≤_}
 use native.Mathlib.Omega.{arith}
 use lib.ListN.{length, drop}
 use Rattle.lists.specs.Places.{same}
@@ -9,10 +12,10 @@ use Rattle.readback.proofs.recovery.same_numbers.Statement.{statement}
 use Rattle.readback.proofs.recovery.same_numbers.Tie as tie
 
 abbrev Inv-loop : tie.InvT-loop
-Inv-loop xs ys i₀ i = (i ≤ length xs) × (same xs ys ≡ same (drop i xs) (drop i ys))
+Inv-loop xs ys equal₀ i₀ equal i = (i ≤ length xs) × (same xs ys ≡ (equal && same (drop i xs) (drop i ys)))
 
 abbrev μ-loop : tie.MeasureT-loop
-μ-loop xs ys i₀ i = length xs - i
+μ-loop xs ys equal₀ i₀ equal i = length xs - i
 
 abbrev start : tie.At-loop Inv-loop μ-loop → tie.Start Inv-loop μ-loop
 start c = c .before .before
@@ -35,12 +38,6 @@ mul-if2-2 c = omega arith
 shared-slice-read-if2-2 : tie.Need-shared-slice-read-if2-2 Inv-loop μ-loop
 shared-slice-read-if2-2 c = omega arith
 
-returns-2 : tie.Need-returns-2 Inv-loop μ-loop
-returns-2 c =
-    let loop = c .before .before .before .before .loop in
-    let s = start (c .before .before .before .before) .args in
-    sym (loop .inv .1 ∙ same-refuted (s .xs .now) (s .ys .now) (loop .i) (omega arith) (omega arith) (c .if2 .taken))
-
 add-i : tie.Need-add-i Inv-loop μ-loop
 add-i c = omega arith
 
@@ -49,15 +46,24 @@ loop-less c = omega arith
 
 loop-again : tie.Need-loop-again Inv-loop μ-loop
 loop-again c =
-    let loop = c .before .before .before .before .loop in
-    let s = start (c .before .before .before .before) .args in
-    (omega arith, loop .inv .1 ∙ same-step (s .xs .now) (s .ys .now) (loop .i) (omega arith) (omega arith) (c .if2 .left))
+    let r = c .before .before .before .before in
+    let loop = r .loop in
+    let xs = start r .args .xs .now in
+    let ys = start r .args .ys .now in
+    let here : Bool → Bool = (λ t. loop .equal && t) in
+    let later : Bool → Bool = (λ t. t && same (drop (loop .i + 1) xs) (drop (loop .i + 1) ys)) in (
+      omega arith,
+      ⊎-elim
+          (λ w. loop .inv .1 ∙ ap here (same-refuted xs ys (loop .i) (omega arith) (omega arith) (w .0 .taken)) ∙ and-false (loop .equal) ∙ sym (ap later (w .1)))
+          (λ w. loop .inv .1 ∙ ap here (same-step xs ys (loop .i) (omega arith) (omega arith) (w .0 .left)) ∙ sym (ap later (w .1)))
+          (c .if2 .came),
+    )
 
-returns-3 : tie.Need-returns-3 Inv-loop μ-loop
-returns-3 c =
-    let loop = c .before .loop in
-    let s = start (c .before) .args in
-    sym (loop .inv .1 ∙ same-end (s .xs .now) (s .ys .now) (loop .i) (c .before .before .if1 .left) (omega arith))
+returns-2 : tie.Need-returns-2 Inv-loop μ-loop
+returns-2 c =
+    let r = c .before in
+    let end = same-end (start r .args .xs .now) (start r .args .ys .now) (r .loop .i) (c .before .before .if1 .left) (omega arith) in
+    sym (r .loop .inv .1 ∙ ap (λ (t : Bool). r .loop .equal && t) end ∙ and-true (r .loop .equal))
 
 pub same-numbers-spec : {M : Type 1} → statement M
 same-numbers-spec =
@@ -71,8 +77,7 @@ same-numbers-spec =
     shared-slice-read-if2
     mul-if2-2
     shared-slice-read-if2-2
-    returns-2
     add-i
     loop-less
     loop-again
-    returns-3)
+    returns-2)
