@@ -1,4 +1,5 @@
--- The theory of `readback`. First lists of steps, then lines and whole texts, and the calls.
+-- The theory of `readback`. First lists of steps, up to their theorem in `StepsBack`; then numbers, lines and whole texts, and what the code
+-- knows of them, up to their theorem in `ListingsBack`. `Cases` has listings and lists that compute.
 pub mod Cases
 pub mod Places
 pub mod Recovering
@@ -11,5 +12,5 @@ pub mod Texts
 pub mod Figures
 pub mod Keeping
 pub mod Scanlines
+pub mod ListingTests
 pub mod ListingsBack
-pub mod Exactly

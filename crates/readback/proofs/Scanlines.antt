@@ -1,8 +1,9 @@
 -- The lines of a text from a place on, as the code reads them: each is missing, malformed, or as its place asks and followed by the others.
 --     line-missing, line-bad, line-good     the line at a place, and the first bad line from there on
 --     line-numbers                          the numbers of a line of steps, and those behind it
---     Scanning text i steps at j count      the lines of steps from place i on have been read up to line j, at place at
---     scanning-start, scanning-next, scanning-missing, scanning-bad, scanning-end
+--     Reached text i k at j                 the lines from line k on, at place i, have been read up to line j, at place at
+--     reached-start, reached-end, reached-missing, reached-bad, reached-next      before the first, and what the next line says
+--     Scanning text from steps at j count   the same of the lines of steps, with their numbers kept; `scanning-start`, `scanning-next`, `scanning-end`
 --     head-start, head-good                 the first three lines, and all lines where they are as their places ask
 -- Assumes nothing.
 use mathlib.Core.Path.{_≡_, refl, sym, ap, ap₂, _∙_}
@@ -16,7 +17,7 @@ use lib.ListN.{length, drop}
 use borrow.Author.Tests.{lt-ltb, le-ltb, le-leb, ne-eqb}
 use Rattle.lines.specs.Lines.{cutAt, asks, numbers}
 use Rattle.lines.specs.Words.{front, piece, piecesFrom}
-use Rattle.lines.proofs.WordLaws.{piece-past, pieces-past, pieces-all, pieces-step}
+use Rattle.lines.proofs.WordLaws.{piece-past, piece-fits, pieces-past, pieces-all, pieces-step}
 use Rattle.readback.specs.Listings.{lineFits, badLine, stepNumbers, malformed, stepsIn}
 use Rattle.readback.specs.Scanned.{Kept, StepsScanned, Scanned}
 use Rattle.readback.specs.declared.scanning.Scan.{Scan}
@@ -43,7 +44,7 @@ module _ (text : List ℕ) (i end : ℕ) (e : end ≡ i + length (piece 10 text 
   unfolding piecesFrom
   rest l = rw (le-leb (end + 1) (length text) (omega (arith, l)))
 
-  pub line-missing : (j : ℕ) → i ≤ length text → length text ≤ end → (3 < j → i < length text) → badLine j (piecesFrom 10 text i) ≡ j
+  line-missing : (j : ℕ) → i ≤ length text → length text ≤ end → (3 < j → i < length text) → badLine j (piecesFrom 10 text i) ≡ j
   unfolding badLine
   line-missing j h l some = rw (only h l) (elim (decLt 3 j) [
     | yes late ↦ rw (lt-ltb 3 j late, ne-eqb (length (piece 10 text i)) 0 (λ z. omega (arith, z, e, l, some late)))
@@ -51,75 +52,88 @@ module _ (text : List ℕ) (i end : ℕ) (e : end ≡ i + length (piece 10 text 
   ])
 
   module _ (inside : i ≤ length text) (l : end < length text) where
-    pub line-bad : (j : ℕ) → lineFits j (piece 10 text i) ≡ false → badLine j (piecesFrom 10 text i) ≡ j
+    line-bad : (j : ℕ) → lineFits j (piece 10 text i) ≡ false → badLine j (piecesFrom 10 text i) ≡ j
     line-bad j f = ap (badLine j) (behind inside l) ∙ bad-here (piece 10 text i) (drop (end + 1) text) j f
 
-    pub line-good : (j : ℕ) → lineFits j (piece 10 text i) ≡ true → badLine j (piecesFrom 10 text i) ≡ badLine (j + 1) (piecesFrom 10 text (end + 1))
+    line-good : (j : ℕ) → lineFits j (piece 10 text i) ≡ true → badLine j (piecesFrom 10 text i) ≡ badLine (j + 1) (piecesFrom 10 text (end + 1))
     line-good j f =
         ap (badLine j) (behind inside l)
         ∙ bad-more (piece 10 text i) (drop (end + 1) text) j f
         ∙ ap₂ badLine (sym (add-one j)) (rest l)
 
-    pub line-numbers : stepNumbers (piecesFrom 10 text i) ≡ numbers (piece 10 text i) ++ stepNumbers (piecesFrom 10 text (end + 1))
+    line-numbers : stepNumbers (piecesFrom 10 text i) ≡ numbers (piece 10 text i) ++ stepNumbers (piecesFrom 10 text (end + 1))
     line-numbers =
         ap stepNumbers (behind inside l)
         ∙ numbers-more (piece 10 text i) (drop (end + 1) text)
         ∙ ap (λ (ps : List (List ℕ)). numbers (piece 10 text i) ++ stepNumbers ps) (rest l)
 
-    pub line-first : piecesFrom 10 text i ≡ piece 10 text i ∷ piecesFrom 10 text (end + 1)
+    line-first : piecesFrom 10 text i ≡ piece 10 text i ∷ piecesFrom 10 text (end + 1)
     line-first = behind inside l ∙ ap (λ (ps : List (List ℕ)). piece 10 text i ∷ ps) (rest l)
 
-pub record Scanning (text : List ℕ) (from : ℕ) (steps : List ℕ) (at j count : ℕ) : Type 0 where
+-- the lines from line k, at place i, on have been read up to line j, at place at, and each was as its place asks
+pub record Reached (text : List ℕ) (i k at j : ℕ) : Type 0 where
   pub inside : at ≤ length text
+  pub decides : badLine k (piecesFrom 10 text i) ≡ badLine j (piecesFrom 10 text at)
+
+pub reached-start : (text : List ℕ) (i k : ℕ) → i ≤ length text → Reached text i k i k
+reached-start text i k h = record { inside = h; decides = refl }
+
+module _ {text : List ℕ} {i k at j : ℕ} (r : Reached text i k at j) (end : ℕ) (e : end ≡ at + length (piece 10 text at)) where
+  -- a line that does not end at the text's end ends before it
+  pub reached-end : (end ≡ length text → ⊥) → end < length text
+  reached-end n = omega (arith, e, piece-fits 10 text at (r .inside), n)
+
+  pub reached-missing : end ≡ length text → (3 < j → at < length text) → badLine k (piecesFrom 10 text i) ≡ j
+  reached-missing l some = r .decides ∙ line-missing text at end e j (r .inside) (omega (arith, l)) some
+
+  module _ (l : end < length text) where
+    pub reached-bad : lineFits j (piece 10 text at) ≡ false → badLine k (piecesFrom 10 text i) ≡ j
+    reached-bad f = r .decides ∙ line-bad text at end e (r .inside) l j f
+
+    pub reached-next : lineFits j (piece 10 text at) ≡ true → Reached text i k (end + 1) (j + 1)
+    reached-next f = record { inside = omega (arith, l); decides = r .decides ∙ line-good text at end e (r .inside) l j f }
+
+pub record Scanning (text : List ℕ) (from : ℕ) (steps : List ℕ) (at j count : ℕ) : Type 0 where
+  pub reached : Reached text from 4 at j
   pub late : 3 < j
   pub small : j ≤ at + 4
-  pub decides : badLine 4 (piecesFrom 10 text from) ≡ badLine j (piecesFrom 10 text at)
   pub read : List ℕ
   pub done : stepNumbers (piecesFrom 10 text from) ≡ read ++ stepNumbers (piecesFrom 10 text at)
   pub kept : Kept read steps count
 
 pub scanning-start : (text : List ℕ) (from : ℕ) (steps : List ℕ) → from ≤ length text → Scanning text from steps from 4 0
 scanning-start text from steps h = record {
-  inside = h;
+  reached = reached-start text from 4 h;
   late = omega arith;
   small = omega arith;
-  decides = refl;
   read = [];
   done = refl;
   kept = kept-none steps;
 }
 
 module _ {text : List ℕ} {from : ℕ} {steps : List ℕ} {at j count : ℕ} (s : Scanning text from steps at j count) where
-  module _ (end : ℕ) (e : end ≡ at + length (piece 10 text at)) where
-    pub scanning-missing : at < length text → length text ≤ end → badLine 4 (piecesFrom 10 text from) ≡ j
-    scanning-missing h l = s .decides ∙ line-missing text at end e j (s .inside) l (λ _. h)
-
-    pub scanning-bad : end < length text → asks 5 4 (piece 10 text at) ≡ false → badLine 4 (piecesFrom 10 text from) ≡ j
-    scanning-bad l f = s .decides ∙ line-bad text at end e (s .inside) l j (step-fits j (piece 10 text at) (s .late) ∙ f)
-
-    pub scanning-next : end < length text → asks 5 4 (piece 10 text at) ≡ true → (left : List ℕ) (r : ℕ)
-        → Kept (s .read ++ numbers (piece 10 text at)) left r → Scanning text from left (end + 1) (j + 1) r
-    scanning-next l f left r k = record {
-      inside = omega (arith, l);
-      late = omega (arith, s .late);
-      small = omega (arith, s .small, e);
-      decides = s .decides ∙ line-good text at end e (s .inside) l j (step-fits j (piece 10 text at) (s .late) ∙ f);
-      read = s .read ++ numbers (piece 10 text at);
-      done =
-          s .done
-          ∙ ap (λ (xs : List ℕ). s .read ++ xs) (line-numbers text at end e (s .inside) l)
-          ∙ sym (append-assoc (s .read) (numbers (piece 10 text at)) (stepNumbers (piecesFrom 10 text (end + 1))));
-      kept = k;
-    }
+  pub scanning-next : (end : ℕ) → end ≡ at + length (piece 10 text at) → end < length text → asks 5 4 (piece 10 text at) ≡ true → (left : List ℕ) (r : ℕ)
+      → Kept (s .read ++ numbers (piece 10 text at)) left r → Scanning text from left (end + 1) (j + 1) r
+  scanning-next end e l f left r k = record {
+    reached = reached-next (s .reached) end e l (step-fits j (piece 10 text at) (s .late) ∙ f);
+    late = omega (arith, s .late);
+    small = omega (arith, s .small, e);
+    read = s .read ++ numbers (piece 10 text at);
+    done =
+        s .done
+        ∙ ap (λ (xs : List ℕ). s .read ++ xs) (line-numbers text at end e (s .reached .inside) l)
+        ∙ sym (append-assoc (s .read) (numbers (piece 10 text at)) (stepNumbers (piecesFrom 10 text (end + 1))));
+    kept = k;
+  }
 
   pub scanning-end : length text ≤ at → (badLine 4 (piecesFrom 10 text from) ≡ 0) × Kept (stepNumbers (piecesFrom 10 text from)) steps count
   unfolding badLine stepNumbers
   scanning-end h =
       let none : piece 10 text at ≡ [] = piece-past 10 text at h in
       let last : piecesFrom 10 text at ≡ [] ∷ [] =
-      pieces-step 10 text at (s .inside) ∙ rw none (ap (λ (ps : List (List ℕ)). [] ∷ ps) (pieces-past 10 text (at + 0 + 1) (omega (arith, h)))) in
+      pieces-step 10 text at (s .reached .inside) ∙ rw none (ap (λ (ps : List (List ℕ)). [] ∷ ps) (pieces-past 10 text (at + 0 + 1) (omega (arith, h)))) in
       let all : s .read ≡ stepNumbers (piecesFrom 10 text from) = sym (s .done ∙ ap (λ (ps : List (List ℕ)). s .read ++ stepNumbers ps) last ∙ append-nil (s .read)) in
-      (s .decides ∙ ap (badLine j) last ∙ rw (lt-ltb 3 j (s .late)), rw (sym all) (s .kept))
+      (s .reached .decides ∙ ap (badLine j) last ∙ rw (lt-ltb 3 j (s .late)), rw (sym all) (s .kept))
 
 -- the first three lines
 pub head-start : (text : List ℕ) → malformed text ≡ badLine 1 (piecesFrom 10 text 0)

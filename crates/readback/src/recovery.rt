@@ -4,7 +4,6 @@ ghost use mathlib.Core.Bool.{true};
 ghost use Prim.Native.Nat.{_+_, _*_, _≤_};
 ghost use lib.ListN.{length};
 ghost use Rattle.lists.specs.Places.{tab, same};
-ghost use Rattle.field.specs.Residues.{Residues};
 ghost use Rattle.field.specs.Rows.{allBelow};
 ghost use Rattle.plan.specs.Numbers.{Within, variables, columns};
 ghost use Rattle.plan.specs.Parts.{linkStart};

@@ -14,7 +14,7 @@ use Rattle.plan.proofs.Refusals.{result-refused}
 use Rattle.plan.proofs.Admitting.{Admitted, admission, turned-away}
 use Rattle.readback.specs.Recovery.{recovered}
 use Rattle.readback.specs.Listings.{stepsIn, lineOf}
-use Rattle.readback.proofs.ListingsBack.{answer-early}
+use Rattle.readback.proofs.ListingTests.{answer-early}
 use Rattle.readback.proofs.calls.read_listing.Statement.{statement}
 use Rattle.readback.proofs.calls.read_listing.Tie as tie
 

@@ -1,4 +1,4 @@
--- `readback::calls::read_text` meets its contract: what the lines say, what the steps say, and what the figures say (`ListingsBack`).
+-- `readback::calls::read_text` meets its contract: what the lines say, what the steps say, and what the figures say (`ListingTests`).
 -- Assumes nothing.
 use mathlib.Core.Path.{_≡_, sym, ap, ap₂, subst, _∙_}
 use mathlib.Core.Bool.{true, false}
@@ -22,7 +22,7 @@ use Rattle.readback.specs.declared.scanning.Scan.{Scan}
 use Rattle.readback.proofs.Places.{recovered-length}
 use Rattle.readback.proofs.Arrays.{front-room, front-list, front-length, columns-few}
 use Rattle.readback.proofs.StepsBack.{written-below}
-use Rattle.readback.proofs.ListingsBack.{listing-lost, listing-unwritten, listing-figures, listing-whole, answer-malformed, answer-refused, answer-read}
+use Rattle.readback.proofs.ListingTests.{listing-lost, listing-unwritten, listing-figures, listing-whole, answer-malformed, answer-refused, answer-read}
 use borrow.Author.Needs.{needs}
 use Rattle.readback.proofs.calls.read_text.Statement.{statement}
 use Rattle.readback.proofs.calls.read_text.Tie as tie

@@ -11,7 +11,8 @@ use Rattle.lines.specs.Words.{piece}
 use Rattle.lines.proofs.WordLaws.{piece-fits, piece-part}
 use Rattle.readback.specs.Scanned.{Kept}
 use Rattle.readback.proofs.Keeping.{kept-few, kept-next}
-use Rattle.readback.proofs.Scanlines.{Scanning, scanning-start, scanning-missing, scanning-bad, scanning-next, scanning-end}
+use Rattle.readback.proofs.StepLines.{step-fits}
+use Rattle.readback.proofs.Scanlines.{reached-end, reached-missing, reached-bad, Scanning, scanning-start, scanning-next, scanning-end}
 use Rattle.readback.proofs.scanning.scan_steps.Statement.{statement}
 use Rattle.readback.proofs.scanning.scan_steps.Tie as tie
 
@@ -33,16 +34,14 @@ module _ (c : tie.After-piece-end Inv-loop μ-loop) where
   place = c .before .before .loop .at
 
   within : c .piece-end .result ≤ length text
-  within = omega (arith, c .piece-end .ensures, piece-fits 10 text place (c .before .before .loop .inv .0 .inside))
+  within = omega (arith, c .piece-end .ensures, piece-fits 10 text place (c .before .before .loop .inv .0 .reached .inside))
 
   -- the part that is read is the line
   line : take (c .piece-end .result - place) (drop place text) ≡ piece 10 text place
   line = piece-part 10 text place (c .piece-end .result) (c .piece-end .ensures)
 
 whole : (c : tie.Else1 Inv-loop μ-loop) → c .before .piece-end .result < length (text (c .before))
-whole c =
-    let e : c .before .piece-end .result ≡ length (text (c .before)) → ⊥ = c .if1 .left in
-    omega (arith, within (c .before), e)
+whole c = reached-end (c .before .before .before .loop .inv .0 .reached) _ (c .before .piece-end .ensures) (c .if1 .left)
 
 -- whether the line is one of four numbers, and which
 module _ (c : tie.After-read-line Inv-loop μ-loop) where
@@ -66,9 +65,9 @@ same-length c = c .before .before .before .loop .inv .1
 
 returns : tie.Need-returns Inv-loop μ-loop
 returns c =
-    let r = c .before .before .before in
-    let s = r .loop .inv .0 in
-    (scanning-missing s _ (c .before .piece-end .ensures) (c .before .before .loop-test .taken) (omega (arith, c .if1 .taken)), omega (arith, s .late))
+    let s = c .before .before .before .loop .inv .0 in
+    let here = c .before .before .loop-test .taken in
+    (reached-missing (s .reached) _ (c .before .piece-end .ensures) (c .if1 .taken) (λ _. here), omega (arith, s .late))
 
 sub-read-line : tie.Need-sub-read-line Inv-loop μ-loop
 sub-read-line c = omega (arith, c .before .piece-end .ensures)
@@ -91,9 +90,9 @@ same-length-2 c = c .before .before .before .before .before .before .before .bef
 returns-2 : tie.Need-returns-2 Inv-loop μ-loop
 returns-2 c =
     let read = c .before .before in
-    let r = ended read .before .before in
-    let s = r .loop .inv .0 in
-    (scanning-bad s _ (ended read .piece-end .ensures) (whole (read .before .before .before)) (sym (fits read) ∙ not-true (read .read-line .result) (c .if2 .taken)), omega (arith, s .late))
+    let s = ended read .before .before .loop .inv .0 in
+    let none = step-fits _ _ (s .late) ∙ sym (fits read) ∙ not-true (read .read-line .result) (c .if2 .taken) in
+    (reached-bad (s .reached) _ (ended read .piece-end .ensures) (whole (read .before .before .before)) none, omega (arith, s .late))
 
 slice-aggregate-keep-step : tie.Need-slice-aggregate-keep-step Inv-loop μ-loop
 slice-aggregate-keep-step c = sym (c .before .before .before .read-line .kept .1 .1 .0)
@@ -110,7 +109,7 @@ add-at c = omega (arith, within (ended (c .before .before .before .before .befor
 add-j : tie.Need-add-j Inv-loop μ-loop
 add-j c =
     let r = ended (c .before .before .before .before .before .before .before) in
-    omega (arith, r .before .before .loop .inv .0 .small, r .before .before .loop .inv .0 .inside)
+    omega (arith, r .before .before .loop .inv .0 .small, r .before .before .loop .inv .0 .reached .inside)
 
 loop-less : tie.Need-loop-less Inv-loop μ-loop
 loop-less c =

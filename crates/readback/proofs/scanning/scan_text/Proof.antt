@@ -1,8 +1,7 @@
 -- `readback::scanning::scan_text` meets its contract: three lines one after the other, then the lines of steps (`Scanlines`). Assumes nothing.
 use mathlib.Core.Path.{_≡_, sym, ap, _∙_}
-use mathlib.Core.Bool.{true, false}
 use mathlib.Core.List.{List}
-use Prim.Native.Nat.{ℕ, _+_, _-_, _≤_, _<_}
+use Prim.Native.Nat.{ℕ, _+_, _-_, _<_}
 use native.Mathlib.Nat.{sub-zero}
 use native.Mathlib.Omega.{arith}
 use lib.ListN.{length, take, drop}
@@ -10,11 +9,11 @@ use lib.Seq.{length-take-le}
 use borrow.Author.Tests.{not-true, not-false}
 use Rattle.lists.specs.Places.{same}
 use Rattle.lines.specs.Lines.{asks, numbers}
-use Rattle.lines.specs.Words.{piece, piecesFrom}
-use Rattle.lines.proofs.WordLaws.{piece-fits, piece-part}
-use Rattle.readback.specs.Listings.{lineFits, badLine, malformed}
+use Rattle.lines.specs.Words.{piece}
+use Rattle.lines.proofs.WordLaws.{piece-part}
+use Rattle.readback.specs.Listings.{lineFits}
 use Rattle.readback.proofs.Texts.{figureWords, stepWords, first-names, third-names}
-use Rattle.readback.proofs.Scanlines.{line-missing, line-bad, line-good, head-start, head-good}
+use Rattle.readback.proofs.Scanlines.{Reached, reached-start, reached-end, reached-missing, reached-bad, reached-next, head-start, head-good}
 use borrow.Author.Needs.{needs}
 use Rattle.readback.proofs.scanning.scan_text.Statement.{statement}
 use Rattle.readback.proofs.scanning.scan_text.Tie as tie
@@ -22,11 +21,7 @@ use Rattle.readback.proofs.scanning.scan_text.Tie as tie
 abbrev text : tie.After-piece-end → List ℕ
 text c = c .before .before .before .before .args .text .now
 
--- a line that begins at place i and ends within the text: where it does not end in an LF, it is missing
-inside : (t : List ℕ) (i end : ℕ) → end ≡ i + length (piece 10 t i) → i ≤ length t → (end ≡ length t → ⊥) → end < length t
-inside t i end e h n = omega (arith, e, piece-fits 10 t i h, n)
-
--- line 1
+-- line 1: where it ends, and whether it has its names
 module _ (c : tie.Else1) where
   abbrev t1 : List ℕ
   t1 = text (c .before)
@@ -35,32 +30,23 @@ module _ (c : tie.Else1) where
   e1 = c .before .piece-end .result
 
   l1 : e1 < length t1
-  l1 = inside t1 0 e1 (c .before .piece-end .ensures) (omega arith) (c .if1 .left)
+  l1 = reached-end (reached-start t1 0 1 (omega arith)) e1 (c .before .piece-end .ensures) (c .if1 .left)
 
-  line1 : take e1 t1 ≡ piece 10 t1 0
-  line1 = ap (λ (n : ℕ). take n t1) (sym (sub-zero e1)) ∙ piece-part 10 t1 0 e1 (c .before .piece-end .ensures)
-
-  -- what the names line says of the first bad line
-  bad1 : same (take e1 t1) figureWords ≡ false → malformed t1 ≡ 1
-  bad1 f =
-      head-start t1 ∙ line-bad t1 0 e1 (c .before .piece-end .ensures) (omega arith) l1 1 (first-names (piece 10 t1 0) ∙ ap (λ (xs : List ℕ). same xs figureWords) (sym line1) ∙ f)
-
-  good1 : same (take e1 t1) figureWords ≡ true → malformed t1 ≡ badLine 2 (piecesFrom 10 t1 (e1 + 1))
-  good1 f =
-      head-start t1 ∙ line-good t1 0 e1 (c .before .piece-end .ensures) (omega arith) l1 1 (first-names (piece 10 t1 0) ∙ ap (λ (xs : List ℕ). same xs figureWords) (sym line1) ∙ f)
+  fits1 : lineFits 1 (piece 10 t1 0) ≡ same (take e1 t1) figureWords
+  fits1 =
+      let line = ap (λ (n : ℕ). take n t1) (sym (sub-zero e1)) ∙ piece-part 10 t1 0 e1 (c .before .piece-end .ensures) in
+      first-names (piece 10 t1 0) ∙ ap (λ (xs : List ℕ). same xs figureWords) (sym line)
 
 abbrev one : tie.After-piece-end2 → tie.Else1
 one c = c .before .before .before .before .before
 
-passed1 : (c : tie.After-piece-end2) → malformed (t1 (one c)) ≡ badLine 2 (piecesFrom 10 (t1 (one c)) (e1 (one c) + 1))
-passed1 c =
+reached2 : (c : tie.After-piece-end2) → Reached (t1 (one c)) 0 1 (e1 (one c) + 1) 2
+reached2 c =
     let compared = c .before .before .same in
-    good1 (one c) (sym (compared .ensures) ∙ not-false (compared .result) (c .before .if2 .left))
+    let first = reached-start (t1 (one c)) 0 1 (omega arith) in
+    reached-next first (e1 (one c)) (one c .before .piece-end .ensures) (l1 (one c)) (fits1 (one c) ∙ sym (compared .ensures) ∙ not-false (compared .result) (c .before .if2 .left))
 
-begin2 : (c : tie.After-piece-end2) → e1 (one c) + 1 ≤ length (t1 (one c))
-begin2 c = omega (arith, l1 (one c))
-
--- line 2
+-- line 2: where it ends, and that it is what is read
 module _ (c : tie.Else3) where
   abbrev t2 : List ℕ
   t2 = t1 (one (c .before))
@@ -72,39 +58,28 @@ module _ (c : tie.Else3) where
   e2 = c .before .piece-end2 .result
 
   l2 : e2 < length t2
-  l2 = inside t2 begin e2 (c .before .piece-end2 .ensures) (begin2 (c .before)) (c .if3 .left)
+  l2 = reached-end (reached2 (c .before)) e2 (c .before .piece-end2 .ensures) (c .if3 .left)
 
   line2 : take (e2 - begin) (drop begin t2) ≡ piece 10 t2 begin
   line2 = piece-part 10 t2 begin e2 (c .before .piece-end2 .ensures)
 
-  bad2 : asks 7 3 (take (e2 - begin) (drop begin t2)) ≡ false → malformed t2 ≡ 2
-  unfolding lineFits
-  bad2 f = passed1 (c .before) ∙ line-bad t2 begin e2 (c .before .piece-end2 .ensures) (begin2 (c .before)) l2 2 (ap (asks 7 3) (sym line2) ∙ f)
-
-  good2 : asks 7 3 (take (e2 - begin) (drop begin t2)) ≡ true → malformed t2 ≡ badLine 3 (piecesFrom 10 t2 (e2 + 1))
-  unfolding lineFits
-  good2 f = passed1 (c .before) ∙ line-good t2 begin e2 (c .before .piece-end2 .ensures) (begin2 (c .before)) l2 2 (ap (asks 7 3) (sym line2) ∙ f)
+-- whether it has three figures
+fits2 : (c : tie.After-read-line) → let r = c .before .before .before in lineFits 2 (piece 10 (t2 r) (begin r)) ≡ c .read-line .result
+unfolding lineFits
+fits2 c =
+    let r = c .before .before .before in
+    let three = one (r .before) .before .before .before .before .before .pre in
+    sym (c .read-line .ensures .0 ∙ ap (λ (n : ℕ). asks 7 n (take (e2 r - begin r) (drop (begin r) (t2 r)))) three ∙ ap (asks 7 3) (line2 r))
 
 abbrev two : tie.After-piece-end3 → tie.Else3
 two c = c .before .before .before .before .before .before .before
 
--- the answer about line 2 is for three numbers
-asked : (c : tie.After-read-line) →
-    let r = c .before .before .before in
-    c .read-line .result ≡ asks 7 3 (take (e2 r - begin r) (drop (begin r) (t2 r)))
-asked c =
-    let r = c .before .before .before in
-    c .read-line .ensures .0 ∙ ap (λ (n : ℕ). asks 7 n (take (e2 r - begin r) (drop (begin r) (t2 r)))) (one (r .before) .before .before .before .before .before .pre)
-
-passed2 : (c : tie.After-piece-end3) → malformed (t2 (two c)) ≡ badLine 3 (piecesFrom 10 (t2 (two c)) (e2 (two c) + 1))
-passed2 c =
+reached3 : (c : tie.After-piece-end3) → Reached (t2 (two c)) 0 1 (e2 (two c) + 1) 3
+reached3 c =
     let read = c .before .before .before .before in
-    good2 (two c) (sym (asked read) ∙ not-false (read .read-line .result) (c .before .if4 .left))
+    reached-next (reached2 (two c .before)) (e2 (two c)) (two c .before .piece-end2 .ensures) (l2 (two c)) (fits2 read ∙ not-false (read .read-line .result) (c .before .if4 .left))
 
-begin3 : (c : tie.After-piece-end3) → e2 (two c) + 1 ≤ length (t2 (two c))
-begin3 c = omega (arith, l2 (two c))
-
--- line 3
+-- line 3: where it ends, and whether it has its names
 module _ (c : tie.Else5) where
   abbrev t3 : List ℕ
   t3 = t2 (two (c .before))
@@ -116,19 +91,12 @@ module _ (c : tie.Else5) where
   e3 = c .before .piece-end3 .result
 
   l3 : e3 < length t3
-  l3 = inside t3 third e3 (c .before .piece-end3 .ensures) (begin3 (c .before)) (c .if5 .left)
+  l3 = reached-end (reached3 (c .before)) e3 (c .before .piece-end3 .ensures) (c .if5 .left)
 
-  line3 : take (e3 - third) (drop third t3) ≡ piece 10 t3 third
-  line3 = piece-part 10 t3 third e3 (c .before .piece-end3 .ensures)
-
-  names3 : lineFits 3 (piece 10 t3 third) ≡ same (take (e3 - third) (drop third t3)) stepWords
-  names3 = third-names (piece 10 t3 third) ∙ ap (λ (xs : List ℕ). same xs stepWords) (sym line3)
-
-  bad3 : same (take (e3 - third) (drop third t3)) stepWords ≡ false → malformed t3 ≡ 3
-  bad3 f = passed2 (c .before) ∙ line-bad t3 third e3 (c .before .piece-end3 .ensures) (begin3 (c .before)) l3 3 (names3 ∙ f)
-
-  good3 : same (take (e3 - third) (drop third t3)) stepWords ≡ true → malformed t3 ≡ badLine 4 (piecesFrom 10 t3 (e3 + 1))
-  good3 f = passed2 (c .before) ∙ line-good t3 third e3 (c .before .piece-end3 .ensures) (begin3 (c .before)) l3 3 (names3 ∙ f)
+  fits3 : lineFits 3 (piece 10 t3 third) ≡ same (take (e3 - third) (drop third t3)) stepWords
+  fits3 =
+      let line = piece-part 10 t3 third e3 (c .before .piece-end3 .ensures) in
+      third-names (piece 10 t3 third) ∙ ap (λ (xs : List ℕ). same xs stepWords) (sym line)
 
 piece-end-requires : tie.Need-piece-end-requires
 piece-end-requires c κs = search needs
@@ -136,7 +104,7 @@ piece-end-requires c κs = search needs
 returns : tie.Need-returns
 returns c =
     let r = c .before in
-    (head-start (text r) ∙ line-missing (text r) 0 _ (r .piece-end .ensures) 1 (omega arith) (omega (arith, c .if1 .taken)) (λ h. absurd (omega arith)), omega arith)
+    (head-start (text r) ∙ reached-missing (reached-start (text r) 0 1 (omega arith)) _ (r .piece-end .ensures) (c .if1 .taken) (λ h. absurd (omega arith)), omega arith)
 
 slice-aggregate-same : tie.Need-slice-aggregate-same
 slice-aggregate-same c = sym (length-take-le _ _ (omega (arith, l1 (c .before))))
@@ -149,8 +117,9 @@ same-requires c κs = search needs
 
 returns-2 : tie.Need-returns-2
 returns-2 c =
-    let compared = c .before .same in
-    (bad1 (c .before .before .before .before) (sym (compared .ensures) ∙ not-true (compared .result) (c .if2 .taken)), omega arith)
+    let r = c .before .before .before .before in
+    let other = fits1 r ∙ sym (c .before .same .ensures) ∙ not-true (c .before .same .result) (c .if2 .taken) in
+    (head-start (t1 r) ∙ reached-bad (reached-start (t1 r) 0 1 (omega arith)) (e1 r) (r .before .piece-end .ensures) (l1 r) other, omega arith)
 
 add-at : tie.Need-add-at
 add-at c = omega (arith, l1 (c .before .before .before .before))
@@ -161,7 +130,7 @@ piece-end-requires-2 c κs = search needs
 returns-3 : tie.Need-returns-3
 returns-3 c =
     let r = c .before in
-    (passed1 r ∙ line-missing (t1 (one r)) (e1 (one r) + 1) _ (r .piece-end2 .ensures) 2 (begin2 r) (omega (arith, c .if3 .taken)) (λ h. absurd (omega arith)), omega arith)
+    (head-start (t1 (one r)) ∙ reached-missing (reached2 r) _ (r .piece-end2 .ensures) (c .if3 .taken) (λ h. absurd (omega arith)), omega arith)
 
 sub-read-line : tie.Need-sub-read-line
 sub-read-line c = search needs
@@ -181,7 +150,9 @@ same-length c = search needs
 returns-4 : tie.Need-returns-4
 returns-4 c =
     let read = c .before .before .before in
-    (bad2 (read .before .before .before) (sym (asked read) ∙ not-true (read .read-line .result) (c .if4 .taken)), omega arith)
+    let r = read .before .before .before in
+    let other = fits2 read ∙ not-true (read .read-line .result) (c .if4 .taken) in
+    (head-start (t2 r) ∙ reached-bad (reached2 (r .before)) (e2 r) (r .before .piece-end2 .ensures) (l2 r) other, omega arith)
 
 add-at-2 : tie.Need-add-at-2
 add-at-2 c = omega (arith, l2 (c .before .before .before .before .before .before))
@@ -195,7 +166,7 @@ same-length-2 c = search needs
 returns-5 : tie.Need-returns-5
 returns-5 c =
     let r = c .before in
-    (passed2 r ∙ line-missing (t2 (two r)) (e2 (two r) + 1) _ (r .piece-end3 .ensures) 3 (begin3 r) (omega (arith, c .if5 .taken)) (λ h. absurd (omega arith)), omega arith)
+    (head-start (t2 (two r)) ∙ reached-missing (reached3 r) _ (r .piece-end3 .ensures) (c .if5 .taken) (λ h. absurd (omega arith)), omega arith)
 
 sub-same : tie.Need-sub-same
 sub-same c = search needs
@@ -217,8 +188,9 @@ same-length-3 c = search needs
 
 returns-6 : tie.Need-returns-6
 returns-6 c =
-    let compared = c .before .same2 in
-    (bad3 (c .before .before .before .before) (sym (compared .ensures) ∙ not-true (compared .result) (c .if6 .taken)), omega arith)
+    let r = c .before .before .before .before in
+    let other = fits3 r ∙ sym (c .before .same2 .ensures) ∙ not-true (c .before .same2 .result) (c .if6 .taken) in
+    (head-start (t3 r) ∙ reached-bad (reached3 (r .before)) (e3 r) (r .before .piece-end3 .ensures) (l3 r) other, omega arith)
 
 add-scan-steps : tie.Need-add-scan-steps
 add-scan-steps c = omega (arith, l3 (c .before .before .before .before))
@@ -240,7 +212,8 @@ returns-7 c =
     let first = one (three .before) in
     let read = five .before .before .before .before .before in
     let compared = last .before .same2 in
-    let all = good3 five (sym (compared .ensures) ∙ not-false (compared .result) (last .if6 .left)) in
+    let names = fits3 five ∙ sym (compared .ensures) ∙ not-false (compared .result) (last .if6 .left) in
+    let all = head-start (t3 five) ∙ reached-next (reached3 (five .before)) (e3 five) (five .before .piece-end3 .ensures) (l3 five) names .decides in
     let figures = read .read-line .ensures .1 (not-false (read .read-line .result) (five .before .before .if4 .left)) ∙ ap numbers (line2 three) in
     head-good (t3 five) (e1 first) (e2 three) (e3 five) (first .before .piece-end .ensures) (l1 first) (three .before .piece-end2 .ensures) (l2 three)
     (five .before .piece-end3 .ensures) (l3 five) (c .before .before .scan-steps .result) _ _ all figures (c .before .before .scan-steps .ensures)
