@@ -2,7 +2,7 @@
 --     Putting v e count i xs      the first i of the numbers v stand in the list e behind `count` others, which gives xs, and have 16 bits each
 --     putting-none, putting-next, putting-all      before the first, one more, and after the last
 --     short-room, wide-number     numbers that do not fit
---     kept-none, kept-next        no numbers; four more, or as many as a line has
+--     kept-none, kept-few, kept-next         no numbers; the count is at most one past the end; as many more as a line has
 -- Assumes nothing.
 use mathlib.Core.Path.{_≡_, refl, sym, ap, ap₂, _∙_}
 use mathlib.Core.Bool.{Bool, true, false, false≢true}

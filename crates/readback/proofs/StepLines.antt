@@ -1,8 +1,10 @@
 -- The lines of steps of a listing, printed and read: each undoes the other.
 --     shownSteps ns              the numbers ns, four to a step, as lines
 --     shown-next                 one line more in front
---     bad-more, numbers-more     a line before others
---     steps-fit, steps-read      printed lines of steps pass, and give their numbers
+--     line-then                  a printed line, and what follows it
+--     bad-more, bad-here, numbers-more       a line before others: as its place asks, or malformed, and its numbers
+--     step-fits                  what the place of a step asks
+--     StepsRead, steps-read      printed lines of steps pass, and give their numbers
 --     steps-shown                lines of steps that pass are what their numbers print
 -- Assumes nothing.
 use mathlib.Core.Path.{_≡_, refl, sym, ap, ap₂, _∙_}

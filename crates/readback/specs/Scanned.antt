@@ -3,7 +3,7 @@
 -- count is put past the list's end.
 --     fits v room count         the numbers v have room behind `count` others, and 16 bits each, as a test
 --     countAfter v room count   the count after them
---     Kept ns steps count       the numbers ns stand at the front of the list; or the count is past its end, and they do not fit
+--     Kept ns steps count       the numbers ns stand at the front of the list (`Held`); or the count is past its end, and they do not fit (`Lost`)
 --     figuresIn text            the numbers of the second line
 --     StepsScanned r text i steps          what is known after the lines from line 4 on, which begins at place i
 --     Scanned r text figures steps         what is known after all lines
@@ -14,8 +14,6 @@ use mathlib.Core.Logic.{_⊎_}
 use Prim.Native.Nat.{ℕ, _+_, _≤_, _<_}
 use lib.Dec.{leb}
 use lib.ListN.{length, take, drop}
-use Rattle.lists.specs.Places.{placed}
-use Rattle.field.specs.Residues.{Residues}
 use Rattle.field.specs.Rows.{allBelow}
 use Rattle.lines.specs.Lines.{cutAt, numbers}
 use Rattle.lines.specs.Words.{front, piecesFrom}
