@@ -41,6 +41,32 @@
  * variables), plus the last beta row times the variables.
  *
  *
+ * THE STORE
+ *
+ * A store keeps what the entries filed so far ask of beta, as C equations: row
+ * q is C coefficients and a right-hand side, and left of column q its
+ * coefficients are zero. So the bytes of row q are its columns q to C-1 and
+ * then the right-hand side, C + 1 - q of them, and the rows follow one another.
+ * Row q begins at byte
+ *
+ *   q (C + 1) - q (q - 1) / 2
+ *
+ * and in all there are C (C + 1) / 2 + C bytes, CELERY_STORE_LEN. An empty
+ * store is all zeros. A store is in reduced form when all bytes are below p,
+ * and row q is either all zero, or has a 1 in column q and column q is zero in
+ * every other row. All that celery_file leaves is in reduced form.
+ *
+ * Stores on disk. Before this layout a store was C rows of C + 1 bytes each,
+ * with the zeros left of column q: C (C + 1) bytes, CELERY_FULL_STORE_LEN. That
+ * is called the full layout here. A store that was kept so is moved once by
+ * celery_to_half, and celery_to_full moves it back for a reader of the full
+ * layout; nothing is lost either way. Every other call takes the layout above
+ * alone: a store in the full layout is refused there for its length (4), so
+ * under its own plan it cannot be mistaken. Where C is 1 the two layouts are the
+ * same two bytes, and there is nothing to move. Neither layout says which plan
+ * it belongs to; keep the plan with it.
+ *
+ *
  * WHAT IS LENT
  *
  * A part is a pointer and a length, counted in its own elements. So many
@@ -120,7 +146,11 @@ enum celery_refusal {
 #define CELERY_WEIGHTS_LEN(n, m) ((m) * (n) + (m) * ((m) - 1) / 2)
 #define CELERY_TABLES_LEN(p, m) ((p) * (m))
 #define CELERY_D_LEN(n, m, t) ((t) * CELERY_VARIABLES(n, m))
-#define CELERY_STORE_LEN(n, m, t) \
+#define CELERY_STORE_LEN(n, m, t)                                        \
+    (CELERY_COLUMNS(n, m, t) * (CELERY_COLUMNS(n, m, t) + 1) / 2 +       \
+     CELERY_COLUMNS(n, m, t))
+/* A store in the full layout, for celery_to_half and celery_to_full alone. */
+#define CELERY_FULL_STORE_LEN(n, m, t) \
     (CELERY_COLUMNS(n, m, t) * (CELERY_COLUMNS(n, m, t) + 1))
 /* The number of steps of a written program, four 16-bit numbers each. */
 #define CELERY_STEP_COUNT(n, m, t)                                       \
@@ -159,12 +189,9 @@ uint8_t celery_check(CELERY_PLAN);
 uint8_t celery_row(CELERY_PLAN, size_t entry, uint8_t *row, size_t row_len);
 
 /*
- * Tests a store. A store is C rows of C + 1 bytes, C coefficients and a
- * right-hand side, and an empty one is all zeros. It is in reduced form when
- * all bytes are below p, and row q is either all zero, or its first nonzero
- * coefficient is a 1 in column q and column q is zero in every other row.
+ * Tests a store for reduced form, see THE STORE.
  *
- * Lent:    store, C (C + 1) bytes.
+ * Lent:    store, C (C + 1) / 2 + C bytes.
  * Causes:  1 2 3 4 5, 6.
  * Writes:  nothing.
  * Cost:    one pass over the store, row 0 first, to its end also where it is
@@ -178,7 +205,8 @@ uint8_t celery_test(CELERY_PLAN, const uint8_t *store, size_t store_len);
  * old store and the entry. Where no other cause is met, it is refused with 9
  * exactly when no beta reproduces it together with all that the store holds.
  *
- * Lent:    store, C (C + 1) bytes; entry and value, any numbers; column.
+ * Lent:    store, C (C + 1) / 2 + C bytes; entry and value, any numbers;
+ *          column.
  * Causes:  1 2 3 4 5, 6, 7, 8, 9.
  * Writes:  *column: the column of the new row's pivot where the entry was new
  *          to the store, and C, which is no column, where the store implied
@@ -194,8 +222,8 @@ uint8_t celery_file(CELERY_PLAN, uint8_t *store, size_t store_len,
  * Reads the coefficients off a store: coefficient q is the right-hand side of
  * row q. They reproduce every entry kept.
  *
- * Lent:    store, C (C + 1) bytes; beta, C bytes, whose old values do not
- *          matter.
+ * Lent:    store, C (C + 1) / 2 + C bytes; beta, C bytes, whose old values do
+ *          not matter.
  * Causes:  1 2 3 4 5, 6.
  * Writes:  all of beta.
  * Cost:    celery_test, then a copy of C bytes.
@@ -215,7 +243,7 @@ uint8_t celery_coefficients(CELERY_PLAN, const uint8_t *store, size_t store_len,
  * its pivot in the column told here: the first in which its row is not zero
  * once the rows of the store have cleared it.
  *
- * Lent:    store, C (C + 1) bytes; entry, any number; residue; column.
+ * Lent:    store, C (C + 1) / 2 + C bytes; entry, any number; residue; column.
  * Causes:  1 2 3 4 5, 6, 7.
  * Writes:  *residue and *column, both. Forced: the residue, and C, which is no
  *          column. Free: p, which is no residue, and the column.
@@ -227,6 +255,36 @@ uint8_t celery_coefficients(CELERY_PLAN, const uint8_t *store, size_t store_len,
  */
 uint8_t celery_settle(CELERY_PLAN, const uint8_t *store, size_t store_len,
                       size_t entry, uint8_t *residue, size_t *column);
+
+/*
+ * Moves a store from the full layout, C rows of C + 1 bytes, to the layout that
+ * all other calls take. One that is not in reduced form is refused with 6; in
+ * the full layout that includes one in which a row q has anything but zeros
+ * left of column q.
+ *
+ * Lent:    full, C (C + 1) bytes; half, C (C + 1) / 2 + C bytes, whose old
+ *          values do not matter.
+ * Causes:  1 2 3 4 5, 6. Each of the two lengths is tested (4).
+ * Writes:  all of half.
+ * Cost:    what lies left of column q in each row q is read first, row 0 first,
+ *          up to a row that has something there; then all else, to its end also
+ *          where it is damaged; then a copy of half's length.
+ */
+uint8_t celery_to_half(CELERY_PLAN, const uint8_t *full, size_t full_len,
+                       uint8_t *half, size_t half_len);
+
+/*
+ * Moves a store back to the full layout. What is moved there and back is the
+ * same byte by byte, from either side.
+ *
+ * Lent:    half, C (C + 1) / 2 + C bytes; full, C (C + 1) bytes, whose old
+ *          values do not matter.
+ * Causes:  1 2 3 4 5, 6. Each of the two lengths is tested (4).
+ * Writes:  all of full, the zeros left of column q in each row q too.
+ * Cost:    celery_test, then each byte of full is written once.
+ */
+uint8_t celery_to_full(CELERY_PLAN, const uint8_t *half, size_t half_len,
+                       uint8_t *full, size_t full_len);
 
 /*
  * Answers what celery_write answers on the same arguments, and writes nothing.

@@ -4,8 +4,9 @@
  * the coefficients off, writes the program, runs it on all four inputs and
  * compares. The same for the days of a month under two radices, 12 and 2. Then
  * entries are settled to residues of s and more, every part that can be empty is
- * lent as a null pointer, and the coefficients are read back from the program
- * and from its listing. It is C and C++. Prints "ok", or the line at fault.
+ * lent as a null pointer, the coefficients are read back from the program and
+ * from its listing, and stores are moved from the full layout and back. It is C
+ * and C++. Prints "ok", or the line at fault.
  */
 #include "celerycrag.h"
 
@@ -25,6 +26,7 @@ enum { P = 3, S = 2, N = 2, M = 0, T = 1 };
 enum {
     C = CELERY_COLUMNS(N, M, T),
     STORE = CELERY_STORE_LEN(N, M, T),
+    FULL = CELERY_FULL_STORE_LEN(N, M, T),
     STEPS = CELERY_STEPS_LEN(N, M, T),
     /* More room than the program needs; the rest must keep its values. */
     ROOM = STEPS + 3
@@ -350,6 +352,132 @@ static int read_back(void)
     return 0;
 }
 
+/* Where row q of a store begins, as the header says. */
+static size_t row_begins(size_t q)
+{
+    return q * (C + 1) - q * (q - 1) / 2;
+}
+
+/* Room for a store in either layout and one byte more, which is beyond every length that is right. */
+enum { WIDE = FULL + 1 };
+
+/* An accepted move writes all of its target and nothing behind it, a refused one nothing. */
+static int move_in(size_t full_len, size_t half_len, int back, const uint8_t *source, int answer, const uint8_t *expected)
+{
+    uint8_t lent[WIDE] = {0}, target[WIDE], due[WIDE];
+    size_t from = back ? half_len : full_len, to = back ? full_len : half_len;
+    int given;
+    memcpy(lent, source, from);
+    memset(target, 0xA5, WIDE);
+    memset(due, 0xA5, WIDE);
+    given = back ? celery_to_full(XOR, from ? lent : NULL, from, to ? target : NULL, to)
+                 : celery_to_half(XOR, from ? lent : NULL, from, to ? target : NULL, to);
+    if (answer == CELERY_ACCEPTED)
+        memcpy(due, expected, to);
+    return given == answer && memcmp(target, due, WIDE) == 0;
+}
+
+static int to_half(const uint8_t *full, int answer, const uint8_t *expected)
+{
+    return move_in(FULL, STORE, 0, full, answer, expected);
+}
+
+static int to_full(const uint8_t *half, int answer, const uint8_t *expected)
+{
+    return move_in(FULL, STORE, 1, half, answer, expected);
+}
+
+/*
+ * Moves stores of XOR from the full layout and back, after each filing, in wrong
+ * lengths, and with each byte damaged. Answers 0, or prints the line at fault.
+ */
+static int moved(void)
+{
+    /* XOR's store as it was kept on disk, and as it is kept now. */
+    static const uint8_t on_disk[FULL] = {
+        1, 0, 0, 2, 0,
+        0, 1, 0, 1, 1,
+        0, 0, 1, 1, 1,
+        0, 0, 0, 0, 0,
+    };
+    static const uint8_t now[STORE] = {1, 0, 0, 2, 0, 1, 0, 1, 1, 1, 1, 1, 0, 0};
+    static const size_t entries[] = {0, 1, 2, 3, 3, 2}, values[] = {0, 1, 1, 0, 0, 1};
+    uint8_t store[STORE] = {0}, other[STORE] = {0}, full[FULL] = {0}, beta[C] = {0}, residue = 255;
+    /* One digit: the two layouts are the same two bytes. */
+    uint8_t one[CELERY_STORE_LEN(1, 0, 0)] = {1, 3}, same[CELERY_FULL_STORE_LEN(1, 0, 0)] = {9, 9};
+    size_t column = 999, i, q, j;
+
+    CHECK(STORE == 14 && FULL == 20 && row_begins(C) == STORE);
+    CHECK(CELERY_STORE_LEN(12, 0, 29) == 65340); /* of 360 columns */
+    CHECK(to_half(on_disk, CELERY_ACCEPTED, now));
+    CHECK(to_full(now, CELERY_ACCEPTED, on_disk));
+    CHECK(celery_coefficients(XOR, now, STORE, beta, C) == CELERY_ACCEPTED);
+    CHECK(memcmp(beta, "\0\1\1\0", C) == 0);
+
+    /* A store that is moved after each filing goes on as one that is not. */
+    for (i = 0; i < sizeof entries / sizeof *entries; i++) {
+        CHECK(celery_file(XOR, store, STORE, entries[i], values[i], &column) == CELERY_ACCEPTED);
+        CHECK(celery_file(XOR, other, STORE, entries[i], values[i], &column) == CELERY_ACCEPTED);
+        CHECK(memcmp(store, other, STORE) == 0);
+        memset(full, 0xA5, FULL);
+        CHECK(celery_to_full(XOR, other, STORE, full, FULL) == CELERY_ACCEPTED);
+        for (q = 0; q < C; q++)
+            for (j = 0; j <= C; j++)
+                CHECK(full[q * (C + 1) + j] == (j < q ? 0 : store[row_begins(q) + j - q]));
+        memset(other, 0xA5, STORE);
+        CHECK(celery_to_half(XOR, full, FULL, other, STORE) == CELERY_ACCEPTED);
+        CHECK(memcmp(store, other, STORE) == 0);
+    }
+    CHECK(memcmp(store, now, STORE) == 0);
+
+    /* Each byte of the one layout and of the other with 255, and what is left of the diagonal with 1. */
+    for (i = 0; i < STORE; i++) {
+        memcpy(other, now, STORE);
+        other[i] = 255;
+        CHECK(to_full(other, CELERY_DAMAGED, NULL));
+    }
+    for (i = 0; i < FULL; i++) {
+        memcpy(full, on_disk, FULL);
+        full[i] = 255;
+        CHECK(to_half(full, CELERY_DAMAGED, NULL));
+        if (i % (C + 1) < i / (C + 1)) {
+            full[i] = 1;
+            CHECK(to_half(full, CELERY_DAMAGED, NULL));
+        }
+    }
+
+    /* Every pair of lengths: only their own are accepted. The source is zeros, which is the empty store. */
+    for (i = 0; i <= WIDE; i++)
+        for (j = 0; j <= WIDE; j++) {
+            int answer = i == FULL && j == STORE ? CELERY_ACCEPTED : CELERY_LENGTH;
+            static const uint8_t zeros[WIDE] = {0};
+            CHECK(move_in(i, j, 0, zeros, answer, zeros));
+            CHECK(move_in(i, j, 1, zeros, answer, zeros));
+        }
+    memcpy(full, on_disk, FULL);
+    memset(other, 0xA5, STORE);
+    CHECK(celery_to_half(9, S, N, M, T, BITS, NONE, NONE, d, sizeof d, full, FULL, other, STORE) == CELERY_NO_PRIME);
+    for (i = 0; i < STORE; i++)
+        CHECK(other[i] == 0xA5);
+
+    /* The full layout in every other call on a store. */
+    column = 999;
+    CHECK(celery_test(XOR, full, FULL) == CELERY_LENGTH);
+    CHECK(celery_file(XOR, full, FULL, 0, 0, &column) == CELERY_LENGTH);
+    CHECK(celery_coefficients(XOR, full, FULL, beta, C) == CELERY_LENGTH);
+    CHECK(celery_settle(XOR, full, FULL, 0, &residue, &column) == CELERY_LENGTH);
+    CHECK(column == 999 && residue == 255);
+
+    CHECK(sizeof one == sizeof same);
+    CHECK(celery_to_full(DIGIT, one, sizeof one, same, sizeof same) == CELERY_ACCEPTED);
+    CHECK(same[0] == 1 && same[1] == 3);
+    CHECK(celery_test(DIGIT, same, sizeof same) == CELERY_ACCEPTED);
+    one[0] = 0, one[1] = 9;
+    CHECK(celery_to_half(DIGIT, same, sizeof same, one, sizeof one) == CELERY_ACCEPTED);
+    CHECK(one[0] == 1 && one[1] == 3);
+    return 0;
+}
+
 /*
  * Empty parts as null pointers: those of a plan without links and products, an
  * empty list of steps, and any part of a call that is refused for its length.
@@ -475,7 +603,7 @@ int main(void)
     CHECK(settle(store, 0, CELERY_DAMAGED, 0, 0));
     CHECK(settle(store, 4, CELERY_DAMAGED, 0, 0)); /* 6 before 7 */
 
-    if (days_of_a_month() != 0 || settled_beyond_s() != 0 || empty_parts() != 0 || read_back() != 0)
+    if (days_of_a_month() != 0 || settled_beyond_s() != 0 || empty_parts() != 0 || read_back() != 0 || moved() != 0)
         return 1;
 
     puts("ok");

@@ -1,4 +1,4 @@
-// Each call with its answer, and after it every byte of a part that it was lent to write. A call k is one of 10 to 23, and `held` is as main.rt says.
+// Each call with its answer, and after it every byte of a part that it was lent to write. A call k is one of 10 to 23, 25 or 26, and `held` is as main.rt says.
 use crate::parts::front;
 use crate::parts::lent;
 use crate::parts::lent_steps;
@@ -43,7 +43,7 @@ fn numbers(part: &[u16]) {
 // The check of a plan, or the row of an entry.
 fn on_plan(
     k: usize,
-    held: &[usize; 17],
+    held: &[usize; 18],
     radices: &[u8],
     weights: &[u8],
     tables: &[u8],
@@ -86,7 +86,7 @@ fn on_plan(
 // The test of a store, or the reading off.
 fn on_store(
     k: usize,
-    held: &[usize; 17],
+    held: &[usize; 18],
     radices: &[u8],
     weights: &[u8],
     tables: &[u8],
@@ -130,7 +130,7 @@ fn on_store(
 
 // A filing.
 fn file(
-    held: &[usize; 17],
+    held: &[usize; 18],
     radices: &[u8],
     weights: &[u8],
     tables: &[u8],
@@ -165,7 +165,7 @@ fn file(
 
 // How an entry stands.
 fn settle(
-    held: &[usize; 17],
+    held: &[usize; 18],
     radices: &[u8],
     weights: &[u8],
     tables: &[u8],
@@ -193,9 +193,63 @@ fn settle(
     }
 }
 
+// A store moved to the new layout.
+fn to_half(
+    held: &[usize; 18],
+    radices: &[u8],
+    weights: &[u8],
+    tables: &[u8],
+    d: &[u8],
+    full: &[u8],
+    store: &mut [u8],
+) {
+    let answer = store::to_half(
+        held[0],
+        held[1],
+        held[2],
+        held[3],
+        held[4],
+        radices,
+        weights,
+        tables,
+        d,
+        full,
+        store,
+    );
+    say(b"number", answer as usize);
+    bytes(b"= store", store);
+}
+
+// A store moved to the layout before.
+fn to_full(
+    held: &[usize; 18],
+    radices: &[u8],
+    weights: &[u8],
+    tables: &[u8],
+    d: &[u8],
+    store: &[u8],
+    full: &mut [u8],
+) {
+    let answer = store::to_full(
+        held[0],
+        held[1],
+        held[2],
+        held[3],
+        held[4],
+        radices,
+        weights,
+        tables,
+        d,
+        store,
+        full,
+    );
+    say(b"number", answer as usize);
+    bytes(b"= full", full);
+}
+
 // The length of the part that the writer hands back; with this call the loan of the slice ends.
 fn handed(
-    held: &[usize; 17],
+    held: &[usize; 18],
     radices: &[u8],
     weights: &[u8],
     tables: &[u8],
@@ -222,7 +276,7 @@ fn handed(
 // The check of a writing, or one of the two writers.
 fn on_program(
     k: usize,
-    held: &[usize; 17],
+    held: &[usize; 18],
     radices: &[u8],
     weights: &[u8],
     tables: &[u8],
@@ -274,7 +328,7 @@ fn on_program(
 
 // A run.
 fn run(
-    held: &[usize; 17],
+    held: &[usize; 18],
     radices: &[u8],
     weights: &[u8],
     tables: &[u8],
@@ -305,7 +359,7 @@ fn run(
 }
 
 // The worst norm.
-fn norm(held: &[usize; 17], radices: &[u8], weights: &[u8], tables: &[u8], d: &[u8], beta: &[u8]) {
+fn norm(held: &[usize; 18], radices: &[u8], weights: &[u8], tables: &[u8], d: &[u8], beta: &[u8]) {
     let answer = listing::worst_norm(
         held[0],
         held[1],
@@ -326,7 +380,7 @@ fn norm(held: &[usize; 17], radices: &[u8], weights: &[u8], tables: &[u8], d: &[
 
 // The coefficients from the steps.
 fn read_steps(
-    held: &[usize; 17],
+    held: &[usize; 18],
     radices: &[u8],
     weights: &[u8],
     tables: &[u8],
@@ -353,7 +407,7 @@ fn read_steps(
 
 // The coefficients from the text.
 fn read_listing(
-    held: &[usize; 17],
+    held: &[usize; 18],
     radices: &[u8],
     weights: &[u8],
     tables: &[u8],
@@ -401,7 +455,7 @@ fn changed(out: &[u8], begin: usize) -> usize {
 }
 
 // The text printed into the first bytes of 131,072 nines: the output, and how many bytes behind it have changed. Then the text is empty.
-pub fn print_text(held: &mut [usize; 17], parts: &[[u8; 2048]; 6], room: usize) {
+pub fn print_text(held: &mut [usize; 18], parts: &[[u8; 2048]; 6], room: usize) {
     let mut out = [9u8; 131072];
     let end = text::print_text(front(&parts[0], held[8]), lent(&mut out, room));
     say(b"length", end);
@@ -414,7 +468,7 @@ pub fn print_text(held: &mut [usize; 17], parts: &[[u8; 2048]; 6], room: usize) 
 pub fn with_store(
     k: usize,
     args: &[usize; 2048],
-    held: &[usize; 17],
+    held: &[usize; 18],
     parts: &[[u8; 2048]; 6],
     row: &mut [u8],
     store: &mut [u8],
@@ -470,7 +524,7 @@ pub fn with_store(
 // The calls 16 to 20, about a program.
 pub fn with_program(
     k: usize,
-    held: &[usize; 17],
+    held: &[usize; 18],
     parts: &[[u8; 2048]; 6],
     beta: &[u8],
     steps: &mut [u16],
@@ -506,7 +560,7 @@ pub fn with_program(
 // The calls 21 and 22, which read a program back.
 pub fn with_readback(
     k: usize,
-    held: &[usize; 17],
+    held: &[usize; 18],
     parts: &[[u8; 2048]; 6],
     beta: &mut [u8],
     steps: &mut [u16],
@@ -534,6 +588,41 @@ pub fn with_readback(
             d,
             front(&parts[0], held[8]),
             lent(beta, held[16]),
+        );
+    }
+}
+
+// The calls 25 and 26, which move a store.
+pub fn move_store(
+    k: usize,
+    held: &[usize; 18],
+    parts: &[[u8; 2048]; 6],
+    store: &mut [u8],
+    full: &mut [u8],
+) {
+    let radices = front(&parts[1], held[9]);
+    let weights = front(&parts[2], held[10]);
+    let tables = front(&parts[3], held[11]);
+    let d = front(&parts[4], held[12]);
+    if k == 25 {
+        to_half(
+            held,
+            radices,
+            weights,
+            tables,
+            d,
+            front(full, held[17]),
+            lent(store, held[15]),
+        );
+    } else {
+        to_full(
+            held,
+            radices,
+            weights,
+            tables,
+            d,
+            front(store, held[15]),
+            lent(full, held[17]),
         );
     }
 }

@@ -150,14 +150,14 @@ pub fn numbers(line: &[u8], args: &mut [usize; 2048]) -> usize {
     r.count
 }
 
-// How many numbers the command k takes; a part takes as many as it is given, and 24 is no command.
+// How many numbers the command k takes; a part takes as many as it is given, and 27 is no command.
 pub fn wanted(k: usize, given: usize) -> usize {
     match k {
         0 => 5,
-        1..=9 => if given <= 2048 { given } else { 0 },
+        1..=9 | 24 => if given <= 2048 { given } else { 0 },
         11 | 15 | 23 => 1,
         13 => 2,
-        24 => TOO_MANY + 1,
+        27 => TOO_MANY + 1,
         _ => 0,
     }
 }

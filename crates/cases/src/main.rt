@@ -4,7 +4,8 @@
 //
 // A command is known by its place among the words in `read`, from 0. `args` has the numbers of the line. `held` has p s n m t, then at 5 the
 // length of the step slice, at 6 the count of the line's numbers, and from 8 the lengths of the byte parts: the text, radices, weights,
-// tables, d and digits, which stand in `parts`, then row, store and beta, which calls may write.
+// tables, d and digits, which stand in `parts`, then row, store, beta and full, which calls may write.
+use crate::calls::move_store;
 use crate::calls::print_text;
 use crate::calls::with_program;
 use crate::calls::with_readback;
@@ -26,11 +27,12 @@ mod parts;
 fn set(
     k: usize,
     args: &[usize; 2048],
-    held: &mut [usize; 17],
+    held: &mut [usize; 18],
     parts: &mut [[u8; 2048]; 6],
     row: &mut [u8; 2048],
     store: &mut [u8; 2048],
     beta: &mut [u8; 2048],
+    full: &mut [u8; 2048],
     steps: &mut [u16; 2048],
 ) {
     match k {
@@ -57,6 +59,10 @@ fn set(
             held[16] = held[6];
             put(beta, args);
         }
+        24 => {
+            held[17] = held[6];
+            put(full, args);
+        }
         _ => {
             held[5] = held[6];
             put_steps(steps, args);
@@ -64,25 +70,25 @@ fn set(
     }
 }
 
-// Prints a line, and reads a command: its numbers into `args`, how many they are into held[6]. Answers which it is, 24 for a line of a text,
-// and 25 for a name or a malformed line.
-fn read(line: &[u8], args: &mut [usize; 2048], held: &mut [usize; 17]) -> usize {
+// Prints a line, and reads a command: its numbers into `args`, how many they are into held[6]. Answers which it is, 27 for a line of a text,
+// and 28 for a name or a malformed line.
+fn read(line: &[u8], args: &mut [usize; 2048], held: &mut [usize; 18]) -> usize {
     io::write_all(1, line);
     match byte(line, 0) {
-        b'#' | b'\n' => return 25,
-        b'>' => return 24,
+        b'#' | b'\n' => return 28,
+        b'>' => return 27,
         _ => {}
     }
     let k = find(
         b"plan radices weights tables d digits row store beta steps plan::check plan::row store::test store::file store::coefficients \
           store::settle program::check_writing program::write_into program::write program::run listing::worst_norm readback::read_steps readback::read_listing \
-          text::print_text ",
+          text::print_text full store::to_half store::to_full ",
         line,
     );
     let count = numbers(line, args);
     if wanted(k, count) != count {
         io::write_all(1, b"= malformed\n");
-        return 25;
+        return 28;
     }
     held[6] = count;
     k
@@ -92,16 +98,17 @@ fn read(line: &[u8], args: &mut [usize; 2048], held: &mut [usize; 17]) -> usize 
 fn obey(
     line: &[u8],
     args: &mut [usize; 2048],
-    held: &mut [usize; 17],
+    held: &mut [usize; 18],
     parts: &mut [[u8; 2048]; 6],
     row: &mut [u8; 2048],
     store: &mut [u8; 2048],
     beta: &mut [u8; 2048],
+    full: &mut [u8; 2048],
     steps: &mut [u16; 2048],
 ) {
     let k = read(line, args, held);
     match k {
-        0..=9 => set(k, args, held, parts, row, store, beta, steps),
+        0..=9 => set(k, args, held, parts, row, store, beta, full, steps),
         10..=15 => with_store(k, args, held, parts, row, store, beta),
         16..=20 => with_program(k, held, parts, beta, steps),
         21 => with_readback(k, held, parts, beta, steps),
@@ -110,7 +117,9 @@ fn obey(
             held[8] = 0;
         }
         23 => print_text(held, parts, args[0]),
-        24 => held[8] = append(&mut parts[0], held[8], line),
+        24 => set(k, args, held, parts, row, store, beta, full, steps),
+        25 | 26 => move_store(k, held, parts, store, full),
+        27 => held[8] = append(&mut parts[0], held[8], line),
         _ => {}
     }
 }
@@ -118,11 +127,12 @@ fn obey(
 // Every line of the input, one after another.
 fn every_line(input: &[u8]) {
     let mut args = [0usize; 2048];
-    let mut held = [0usize; 17];
+    let mut held = [0usize; 18];
     let mut parts = [[0u8; 2048]; 6];
     let mut row = [0u8; 2048];
     let mut store = [0u8; 2048];
     let mut beta = [0u8; 2048];
+    let mut full = [0u8; 2048];
     let mut steps = [0u16; 2048];
     let mut at: usize = 0;
     while at < input.len() {
@@ -135,6 +145,7 @@ fn every_line(input: &[u8]) {
             &mut row,
             &mut store,
             &mut beta,
+            &mut full,
             &mut steps,
         );
         at = end;
@@ -142,7 +153,7 @@ fn every_line(input: &[u8]) {
 }
 
 fn main() {
-    let mut input = io::large_buffer();
+    let mut input = [0u8; 131072];
     let count = io::read_full(0, &mut input);
     every_line(&input[..count]);
 }

@@ -11,6 +11,7 @@ ghost use Rattle.plan.specs.Numbers.{plan, columns};
 ghost use Rattle.plan.specs.Parts.{given, checkCauses};
 ghost use Rattle.plan.specs.Rows as rows;
 ghost use Rattle.store.specs.Calls as stores;
+ghost use Rattle.store.specs.Moves as moves;
 ghost use Rattle.store.specs.Settled as settled;
 ghost use Rattle.program.specs.Layout.{stepCount};
 ghost use Rattle.program.specs.Calls as programs;
@@ -186,6 +187,48 @@ pub extern "C" fn celery_coefficients(
     ensures { λ r. ⌜ now (beta .exit) ≡ result r (stores.coefficients (columns (plan p s n m t)) (now (store .entry))) (now (beta .entry)) ⌝ }
 {
     store::coefficients(p, s, n, m, t, radices, weights, tables, d, store, beta)
+}
+
+// Moves a store from the layout before, C rows of C + 1 bytes, to the new one: causes 1 2 3 4 5 6.
+#[no_mangle]
+pub extern "C" fn celery_to_half(
+    p: usize,
+    s: usize,
+    n: usize,
+    m: usize,
+    t: usize,
+    radices: &[u8],
+    weights: &[u8],
+    tables: &[u8],
+    d: &[u8],
+    full: &[u8],
+    half: &mut [u8],
+) -> u8
+    ensures { λ r. ⌜ r ≡ first (moves.toHalfCauses (given p s n m t (now (radices .entry)) (now (weights .entry)) (now (tables .entry)) (now (d .entry))) (now (full .entry)) (now (half .entry))) ⌝ }
+    ensures { λ r. ⌜ now (half .exit) ≡ result r (moves.halved (columns (plan p s n m t)) (now (full .entry))) (now (half .entry)) ⌝ }
+{
+    store::to_half(p, s, n, m, t, radices, weights, tables, d, full, half)
+}
+
+// Moves a store back to the layout before: causes 1 2 3 4 5 6.
+#[no_mangle]
+pub extern "C" fn celery_to_full(
+    p: usize,
+    s: usize,
+    n: usize,
+    m: usize,
+    t: usize,
+    radices: &[u8],
+    weights: &[u8],
+    tables: &[u8],
+    d: &[u8],
+    half: &[u8],
+    full: &mut [u8],
+) -> u8
+    ensures { λ r. ⌜ r ≡ first (moves.toFullCauses (given p s n m t (now (radices .entry)) (now (weights .entry)) (now (tables .entry)) (now (d .entry))) (now (half .entry)) (now (full .entry))) ⌝ }
+    ensures { λ r. ⌜ now (full .exit) ≡ result r (moves.widened (columns (plan p s n m t)) (now (half .entry))) (now (full .entry)) ⌝ }
+{
+    store::to_full(p, s, n, m, t, radices, weights, tables, d, half, full)
 }
 
 // The number that `celery_write` would answer; nothing is written.

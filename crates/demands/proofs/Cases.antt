@@ -1,5 +1,5 @@
 -- 01, "Cases (those with * are proved)": one collected table of facts about the definitions; and 02: facts about a plan whose digits have radices
--- of their own (C-11), about the entries that are settled (C-12), and about the state of the store test (C-13). Each computes.
+-- of their own (C-11), about the entries that are settled (C-12), about the state of the store test (C-13), and about the moves (C-16). Each computes.
 -- X is the XOR plan; L is the plan with one link of weight 1 and table 1, 0, 0; F has p = 5; M has a month and a bit; D has one digit of radix
 -- p = 5. Assumes nothing.
 use mathlib.Core.Path.{_≡_, refl}
@@ -9,18 +9,19 @@ use Prim.Native.Nat.{ℕ, _+_, _*_, _%_}
 use Rattle.lists.specs.Places.{sum, tab, every, joined}
 use Rattle.field.specs.Primes.{isPrime, oddPrime}
 use Rattle.field.specs.Residues.{inverse, square, minusSquare}
-use Rattle.plan.specs.Causes.{gives, refuses}
+use Rattle.plan.specs.Causes.{first, gives, refuses}
 use Rattle.plan.specs.Numbers.{product, badRadix, radicesFit, outOfRange}
-use Rattle.plan.specs.Parts.{Given, given, lengthsFit, valuesFit, storeSize, callCauses}
+use Rattle.plan.specs.Parts.{Given, given, lengthsFit, valuesFit, storeSize, fullSize, callCauses}
 use Rattle.plan.specs.Rows.{digit, digits, link, chain, values, weighted, rowPlace, row}
 use Rattle.store.specs.declared.elimination.Filed.the-variants.{New, Implied, Refused}
-use Rattle.store.specs.Elimination.{isZeroRow, isPivot, isReduced, residual, lead, normal, inserted, outcome, after, rowStart, flat}
+use Rattle.store.specs.Elimination.{isZeroRow, isPivot, isReduced, residual, lead, normal, inserted, outcome, after, rowStart, cells, flat}
 use Rattle.store.specs.Calls.{answerOf, filed, coefficients}
 use Rattle.store.specs.declared.settling.Settled.the-variants as settled
 use Rattle.store.specs.declared.settling.Settled.the-variants.{Forced, Free}
 use Rattle.store.specs.Settled as settling
 use Rattle.store.specs.Settled.{standing, settleAnswer}
-use Rattle.store.specs.Reading.{rowSound, counted, stateAfter, isDamaged}
+use Rattle.store.specs.Reading.{State, stateOf, rowSound, counted, stateAfter, isDamaged, rowOf}
+use Rattle.store.specs.Moves.{fullFlat, halved, widened, toHalfCauses, toFullCauses, fullFileAnswer, fullFileStore}
 use Rattle.program.specs.Steps.{tableAt, goodStep, wellFormed, assigned, stepped, registers, bootstraps, output}
 use Rattle.program.specs.Layout.{adds, linkSteps, productSteps, layout, stepCount}
 use Rattle.program.specs.Calls.{digitsFit, runAnswer}
@@ -68,7 +69,7 @@ pub record Starred : Type 0 where
   pub five-product : (tableAt (F .numbers) (F .tables) 0 ((2 + 3) % 5) + tableAt (F .numbers) (F .tables) 1 ((2 + 4 * 3) % 5)) % 5 ≡ 1
 
 pub starred : Starred
-unfolding storeOf storeAfter answer refusal filed coefficients callCauses storeSize rowStart product badRadix radicesFit outOfRange oddPrime isPrime every lengthsFit valuesFit isZeroRow isPivot isReduced residual lead normal inserted outcome after flat tab sum row rowPlace weighted values chain link digit inverse square minusSquare tableAt bootstraps layout stepCount joined linkSteps productSteps adds
+unfolding storeOf storeAfter answer refusal filed coefficients callCauses storeSize rowStart cells product badRadix radicesFit outOfRange oddPrime isPrime every lengthsFit valuesFit isZeroRow isPivot isReduced residual lead normal inserted outcome after flat joined tab sum row rowPlace weighted values chain link digit inverse square minusSquare tableAt bootstraps layout stepCount linkSteps productSteps adds
 starred =
     record {
       xor-1 = refl;
@@ -109,7 +110,7 @@ pub record Mixed : Type 0 where
   pub month-run-2 : runAnswer M (layout (M .numbers) [] [] (2 ∷ 1 ∷ [])) (7 ∷ 2 ∷ []) ≡ refuses 12
 
 pub mixed : Mixed
-unfolding storeOf storeAfter answer refusal filed coefficients callCauses storeSize rowStart product badRadix radicesFit outOfRange oddPrime isPrime every lengthsFit valuesFit isZeroRow isPivot isReduced residual lead normal inserted outcome after flat tab sum row rowPlace values chain digit inverse bootstraps layout joined adds wellFormed goodStep registers stepped assigned output digitsFit
+unfolding storeOf storeAfter answer refusal filed coefficients callCauses storeSize rowStart cells product badRadix radicesFit outOfRange oddPrime isPrime every lengthsFit valuesFit isZeroRow isPivot isReduced residual lead normal inserted outcome after flat joined tab sum row rowPlace values chain digit inverse bootstraps layout adds wellFormed goodStep registers stepped assigned output digitsFit
 mixed =
     record {
       month-low = refl;
@@ -158,7 +159,7 @@ pub record Settled : Type 0 where
   pub too-long : settleAnswer D (2 ∷ 0 ∷ 0 ∷ []) 5 ≡ settling.answerOf (settled.Refused 4)
 
 pub settled-entries : Settled
-unfolding storeOf storeAfter answer refusal filed callCauses storeSize rowStart product badRadix radicesFit outOfRange oddPrime isPrime every lengthsFit valuesFit isZeroRow isPivot isReduced residual lead normal inserted outcome after flat tab sum row rowPlace weighted values chain digit inverse standing
+unfolding storeOf storeAfter answer refusal filed callCauses storeSize rowStart cells product badRadix radicesFit outOfRange oddPrime isPrime every lengthsFit valuesFit isZeroRow isPivot isReduced residual lead normal inserted outcome after flat joined tab sum row rowPlace weighted values chain digit inverse standing
 settled-entries =
     record {
       empty-0 = refl;
@@ -184,33 +185,35 @@ settled-entries =
       too-long = refl;
     }
 
--- what the state says after the last row of a store of two columns, modulo 3
+-- a store of two columns, modulo 3: three bytes of row 0 and two of row 1. Its state after some rows, and what that says after the last
+abbrev pub state : List ℕ → ℕ → State
+state store = stateAfter 3 2 (rowOf false 2 store)
+
 abbrev pub damaged : List ℕ → Bool
-damaged store = isDamaged 3 2 (stateAfter 3 2 store 2)
+damaged store = isDamaged 3 (state store 2)
 
 pub record Read : Type 0 where
-  -- a pivot, and a column without one: the columns 0 and 1 are closed in turn, and the right-hand side stays
-  pub begun : stateAfter 3 2 (1 ∷ 2 ∷ 1 ∷ 0 ∷ 0 ∷ 0 ∷ []) 0 ≡ record { row = 0; sound = true; tops = 0 ∷ 0 ∷ 0 ∷ [] }
-  pub one-row : stateAfter 3 2 (1 ∷ 2 ∷ 1 ∷ 0 ∷ 0 ∷ 0 ∷ []) 1 ≡ record { row = 1; sound = true; tops = 0 ∷ 2 ∷ 1 ∷ [] }
-  pub two-rows : stateAfter 3 2 (1 ∷ 2 ∷ 1 ∷ 0 ∷ 0 ∷ 0 ∷ []) 2 ≡ record { row = 2; sound = true; tops = 0 ∷ 0 ∷ 1 ∷ [] }
-  pub free-column : damaged (1 ∷ 2 ∷ 1 ∷ 0 ∷ 0 ∷ 0 ∷ []) ≡ false
-  pub two-pivots : damaged (1 ∷ 0 ∷ 2 ∷ 0 ∷ 1 ∷ 2 ∷ []) ≡ false
-  pub empty : damaged (0 ∷ 0 ∷ 0 ∷ 0 ∷ 0 ∷ 0 ∷ []) ≡ false
+  -- a pivot, and a column without one: the columns 0 and 1 are left behind in turn, and the right-hand side stays
+  pub begun : state (1 ∷ 2 ∷ 1 ∷ 0 ∷ 0 ∷ []) 0 ≡ stateOf true (0 ∷ 0 ∷ 0 ∷ [])
+  pub one-row : state (1 ∷ 2 ∷ 1 ∷ 0 ∷ 0 ∷ []) 1 ≡ stateOf true (2 ∷ 1 ∷ [])
+  pub two-rows : state (1 ∷ 2 ∷ 1 ∷ 0 ∷ 0 ∷ []) 2 ≡ stateOf true (1 ∷ [])
+  pub free-column : damaged (1 ∷ 2 ∷ 1 ∷ 0 ∷ 0 ∷ []) ≡ false
+  pub two-pivots : damaged (1 ∷ 0 ∷ 2 ∷ 1 ∷ 2 ∷ []) ≡ false
+  pub empty : damaged (0 ∷ 0 ∷ 0 ∷ 0 ∷ 0 ∷ []) ≡ false
   -- a fault that is told by its own row, in row 0 alone and in the last row alone
-  pub first-diagonal : damaged (2 ∷ 0 ∷ 0 ∷ 0 ∷ 1 ∷ 0 ∷ []) ≡ true
-  pub last-diagonal : damaged (1 ∷ 0 ∷ 0 ∷ 0 ∷ 2 ∷ 0 ∷ []) ≡ true
-  pub first-not-zero : damaged (0 ∷ 0 ∷ 1 ∷ 0 ∷ 0 ∷ 0 ∷ []) ≡ true
-  pub last-not-zero : damaged (0 ∷ 0 ∷ 0 ∷ 0 ∷ 0 ∷ 1 ∷ []) ≡ true
+  pub first-diagonal : damaged (2 ∷ 0 ∷ 0 ∷ 1 ∷ 0 ∷ []) ≡ true
+  pub last-diagonal : damaged (1 ∷ 0 ∷ 0 ∷ 2 ∷ 0 ∷ []) ≡ true
+  pub first-not-zero : damaged (0 ∷ 0 ∷ 1 ∷ 0 ∷ 0 ∷ []) ≡ true
+  pub last-not-zero : damaged (0 ∷ 0 ∷ 0 ∷ 0 ∷ 1 ∷ []) ≡ true
   -- one that is told by the row of its column: above a pivot, and p itself in a column without one
-  pub above-a-pivot : damaged (1 ∷ 1 ∷ 0 ∷ 0 ∷ 1 ∷ 0 ∷ []) ≡ true
-  pub no-residue : damaged (1 ∷ 3 ∷ 0 ∷ 0 ∷ 0 ∷ 0 ∷ []) ≡ true
-  -- one that only the state tells after the last row: each row is sound, and something lies below a diagonal, or p on the right
-  pub below-a-diagonal : stateAfter 3 2 (1 ∷ 0 ∷ 0 ∷ 1 ∷ 1 ∷ 0 ∷ []) 2 ≡ record { row = 2; sound = true; tops = 1 ∷ 0 ∷ 0 ∷ [] }
-  pub below-damaged : damaged (1 ∷ 0 ∷ 0 ∷ 1 ∷ 1 ∷ 0 ∷ []) ≡ true
-  pub right-hand-side : damaged (1 ∷ 0 ∷ 3 ∷ 0 ∷ 1 ∷ 0 ∷ []) ≡ true
+  pub above-a-pivot : damaged (1 ∷ 1 ∷ 0 ∷ 1 ∷ 0 ∷ []) ≡ true
+  pub no-residue : damaged (1 ∷ 3 ∷ 0 ∷ 0 ∷ 0 ∷ []) ≡ true
+  -- one that only the state tells after the last row: each row is sound, and p is on the right
+  pub right-hand-state : state (1 ∷ 0 ∷ 3 ∷ 1 ∷ 0 ∷ []) 2 ≡ stateOf true (3 ∷ [])
+  pub right-hand-side : damaged (1 ∷ 0 ∷ 3 ∷ 1 ∷ 0 ∷ []) ≡ true
 
 pub read : Read
-unfolding stateAfter rowSound counted isDamaged rowStart every tab
+unfolding stateAfter rowSound counted isDamaged rowStart sum every tab
 read =
     record {
       begun = refl;
@@ -225,7 +228,81 @@ read =
       last-not-zero = refl;
       above-a-pivot = refl;
       no-residue = refl;
-      below-a-diagonal = refl;
-      below-damaged = refl;
+      right-hand-state = refl;
       right-hand-side = refl;
+    }
+
+-- the causes of the moves under the plan L, of two columns: six bytes in the layout before, five in the new one
+abbrev pub toHalf : List ℕ → List ℕ → ℕ
+toHalf full half = first (toHalfCauses L full half)
+
+abbrev pub toFull : List ℕ → List ℕ → ℕ
+toFull half full = first (toFullCauses L half full)
+
+pub record Moved : Type 0 where
+  -- "C(C+1)/2 + C bytes", "C up to 360 (65,340 bytes)"; before, 255 was the last within 64 KiB
+  pub one-column : storeSize 1 ≡ fullSize 1
+  pub most-columns : storeSize 360 ≡ 65340
+  pub most-before : fullSize 255 ≡ 65280
+  -- "keeps of row q only columns q to C−1 and the right-hand side": each byte by its row and column
+  pub three-halved : halved 3 (11 ∷ 12 ∷ 13 ∷ 14 ∷ 0 ∷ 22 ∷ 23 ∷ 24 ∷ 0 ∷ 0 ∷ 33 ∷ 34 ∷ []) ≡ 11 ∷ 12 ∷ 13 ∷ 14 ∷ 22 ∷ 23 ∷ 24 ∷ 33 ∷ 34 ∷ []
+  pub three-widened : widened 3 (11 ∷ 12 ∷ 13 ∷ 14 ∷ 22 ∷ 23 ∷ 24 ∷ 33 ∷ 34 ∷ []) ≡ 11 ∷ 12 ∷ 13 ∷ 14 ∷ 0 ∷ 22 ∷ 23 ∷ 24 ∷ 0 ∷ 0 ∷ 33 ∷ 34 ∷ []
+  -- what lies left of a diagonal is not kept, so that an old store which has something there is refused
+  pub left-lost : halved 2 (1 ∷ 0 ∷ 0 ∷ 1 ∷ 1 ∷ 0 ∷ []) ≡ 1 ∷ 0 ∷ 0 ∷ 1 ∷ 0 ∷ []
+  pub left-refused : toHalf (1 ∷ 0 ∷ 0 ∷ 1 ∷ 1 ∷ 0 ∷ []) (9 ∷ 9 ∷ 9 ∷ 9 ∷ 9 ∷ []) ≡ 6
+  -- "its target's old bytes are untested"
+  pub halves : toHalf (1 ∷ 2 ∷ 1 ∷ 0 ∷ 0 ∷ 0 ∷ []) (9 ∷ 9 ∷ 9 ∷ 9 ∷ 9 ∷ []) ≡ 0
+  pub widens : toFull (1 ∷ 2 ∷ 1 ∷ 0 ∷ 0 ∷ []) (9 ∷ 9 ∷ 9 ∷ 9 ∷ 9 ∷ 9 ∷ []) ≡ 0
+  -- "either move refuses others with 6": a byte of p, 2 on the diagonal, something above a pivot, a right-hand side in a zero row
+  pub half-residue : toFull (1 ∷ 3 ∷ 0 ∷ 0 ∷ 0 ∷ []) (0 ∷ 0 ∷ 0 ∷ 0 ∷ 0 ∷ 0 ∷ []) ≡ 6
+  pub half-diagonal : toFull (2 ∷ 0 ∷ 0 ∷ 1 ∷ 0 ∷ []) (0 ∷ 0 ∷ 0 ∷ 0 ∷ 0 ∷ 0 ∷ []) ≡ 6
+  pub half-above : toFull (1 ∷ 1 ∷ 0 ∷ 1 ∷ 0 ∷ []) (0 ∷ 0 ∷ 0 ∷ 0 ∷ 0 ∷ 0 ∷ []) ≡ 6
+  pub half-right : toFull (1 ∷ 0 ∷ 0 ∷ 0 ∷ 1 ∷ []) (0 ∷ 0 ∷ 0 ∷ 0 ∷ 0 ∷ 0 ∷ []) ≡ 6
+  pub full-residue : toHalf (1 ∷ 3 ∷ 0 ∷ 0 ∷ 0 ∷ 0 ∷ []) (0 ∷ 0 ∷ 0 ∷ 0 ∷ 0 ∷ []) ≡ 6
+  pub full-diagonal : toHalf (2 ∷ 0 ∷ 0 ∷ 0 ∷ 1 ∷ 0 ∷ []) (0 ∷ 0 ∷ 0 ∷ 0 ∷ 0 ∷ []) ≡ 6
+  pub full-above : toHalf (1 ∷ 1 ∷ 0 ∷ 0 ∷ 1 ∷ 0 ∷ []) (0 ∷ 0 ∷ 0 ∷ 0 ∷ 0 ∷ []) ≡ 6
+  pub full-right : toHalf (1 ∷ 0 ∷ 0 ∷ 0 ∷ 0 ∷ 1 ∷ []) (0 ∷ 0 ∷ 0 ∷ 0 ∷ 0 ∷ []) ≡ 6
+  -- 4 for either length, before 6
+  pub source-long : toHalf (2 ∷ 0 ∷ 0 ∷ 0 ∷ 0 ∷ 0 ∷ 0 ∷ []) (0 ∷ 0 ∷ 0 ∷ 0 ∷ 0 ∷ []) ≡ 4
+  pub target-short : toHalf (2 ∷ 0 ∷ 0 ∷ 0 ∷ 0 ∷ 0 ∷ []) (0 ∷ 0 ∷ 0 ∷ 0 ∷ []) ≡ 4
+  pub source-old : toFull (1 ∷ 2 ∷ 1 ∷ 0 ∷ 0 ∷ 0 ∷ []) (0 ∷ 0 ∷ 0 ∷ 0 ∷ 0 ∷ 0 ∷ []) ≡ 4
+  pub target-new : toFull (1 ∷ 2 ∷ 1 ∷ 0 ∷ 0 ∷ []) (0 ∷ 0 ∷ 0 ∷ 0 ∷ 0 ∷ []) ≡ 4
+  -- an old store lent to filing is 4 by its length
+  pub old-lent : answer (call L (1 ∷ 2 ∷ 1 ∷ 0 ∷ 0 ∷ 0 ∷ []) 0 0) ≡ answerOf (Refused 4)
+  -- the same filing over both layouts
+  pub filed-new : answer (call L (1 ∷ 2 ∷ 1 ∷ 0 ∷ 0 ∷ []) 0 1) ≡ answerOf (New 1)
+  pub filed-old : fullFileAnswer L (1 ∷ 2 ∷ 1 ∷ 0 ∷ 0 ∷ 0 ∷ []) 0 1 ≡ answerOf (New 1)
+  pub left-new : storeAfter (call L (1 ∷ 2 ∷ 1 ∷ 0 ∷ 0 ∷ []) 0 1) ≡ 1 ∷ 0 ∷ 2 ∷ 1 ∷ 1 ∷ []
+  pub left-old : fullFileStore L (1 ∷ 2 ∷ 1 ∷ 0 ∷ 0 ∷ 0 ∷ []) 0 1 ≡ 1 ∷ 0 ∷ 2 ∷ 0 ∷ 1 ∷ 1 ∷ []
+
+pub moved : Moved
+unfolding storeAfter answer refusal filed callCauses storeSize fullSize rowStart cells fullFlat product badRadix radicesFit outOfRange oddPrime isPrime every lengthsFit valuesFit isZeroRow isPivot isReduced residual lead normal inserted outcome after flat joined tab sum row rowPlace weighted values chain link digit inverse
+moved =
+    record {
+      one-column = refl;
+      most-columns = refl;
+      most-before = refl;
+      three-halved = refl;
+      three-widened = refl;
+      left-lost = refl;
+      left-refused = refl;
+      halves = refl;
+      widens = refl;
+      half-residue = refl;
+      half-diagonal = refl;
+      half-above = refl;
+      half-right = refl;
+      full-residue = refl;
+      full-diagonal = refl;
+      full-above = refl;
+      full-right = refl;
+      source-long = refl;
+      target-short = refl;
+      source-old = refl;
+      target-new = refl;
+      old-lent = refl;
+      filed-new = refl;
+      filed-old = refl;
+      left-new = refl;
+      left-old = refl;
     }

@@ -14,6 +14,8 @@ pub use rows::accumulate;
 pub use rows::accumulate_short;
 pub use rows::add_multiple;
 pub use rows::all_below;
+pub use rows::clear;
+pub use rows::copy;
 pub use rows::dot;
 pub use rows::pour;
 pub use rows::raise;

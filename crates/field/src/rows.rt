@@ -1,7 +1,7 @@
 // Rows of residues. Each loop body is `cell` or one sum, so that the loops become vector code.
 ghost use mathlib.Core.Path.{_≡_};
 ghost use Prim.Native.Nat.{ℕ, _+_, _-_, _*_, _≤_, _<_, _%_, max};
-ghost use lib.ListN.{length};
+ghost use lib.ListN.{length, replicate};
 ghost use Rattle.lists.specs.Places.{tab, at};
 ghost use Rattle.field.specs.Residues.{Modulus, Residues};
 ghost use Rattle.field.specs.Rows as specs;
@@ -152,6 +152,29 @@ pub fn raise(tops: &mut [u8], xs: &[u8])
     let mut j = 0;
     while j < tops.len() {
         tops[j] = larger(tops[j], xs[j]);
+        j += 1;
+    }
+}
+
+// The bytes of xs, into out.
+pub fn copy(out: &mut [u8], xs: &[u8])
+    requires { ⌜ length (now xs) ≡ length (now out) ⌝ }
+    ensures { λ _. ⌜ now (out .exit) ≡ now (xs .entry) ⌝ }
+{
+    let mut j = 0;
+    while j < out.len() {
+        out[j] = xs[j];
+        j += 1;
+    }
+}
+
+// Every byte becomes 0.
+pub fn clear(xs: &mut [u8])
+    ensures { λ _. ⌜ now (xs .exit) ≡ replicate (length (now (xs .entry))) 0 ⌝ }
+{
+    let mut j = 0;
+    while j < xs.len() {
+        xs[j] = 0;
         j += 1;
     }
 }

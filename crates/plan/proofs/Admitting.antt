@@ -1,6 +1,6 @@
 -- What every call that is lent a plan does first (`admitted` of specs/Parts), and what its answer says of the call's causes. A call's refusal
 -- is that of its numbers, else that of its parts, else that of its own causes (`split`); all else is the arithmetic of `orElse`.
---     size-limit                                    the size of a store within the limits of a plan
+--     size-limit                                    the size of a store, in the layout before too, within the limits of a plan
 --     lent-of                                       parts that meet neither of causes 4 and 5 are lent as the plan asks
 --     admit-numbers, admit-parts, admit-passed      what `admit` answers, from the constructor's and the parts' refusals
 --     Admitted, admission                           an admitted call: its plan is within its limits, its parts are as the plan asks, and only its
@@ -11,8 +11,8 @@
 --     accepted-call                                 a call that is lent an accepted plan, and its own parts in their lengths
 -- Assumes nothing.
 use mathlib.Core.Path.{_≡_, refl, sym, ap, ap₂, subst, _∙_}
-use mathlib.Core.Bool.{Bool, true, not, _&&_}
-use mathlib.Core.List.{List, [], _∷_, _++_}
+use mathlib.Core.Bool.{Bool, true, _&&_}
+use mathlib.Core.List.{List, [], _++_}
 use Prim.Native.Nat.{ℕ, zero, suc, _+_, _*_, _≤_, _<_}
 use native.Mathlib.Nat.{mul-le-mul}
 use native.Mathlib.Omega.{arith}
@@ -24,7 +24,7 @@ use Rattle.field.specs.Rows.{allBelow}
 use Rattle.field.proofs.Ranges.{residues-of}
 use Rattle.plan.specs.Causes.{first, gives}
 use Rattle.plan.specs.Numbers.{variables, product, radicesFit, numberCauses, plan, numbersOf, answerOf, checked, Within}
-use Rattle.plan.specs.Parts.{Given, lend, given, linkStart, lengthsFit, valuesFit, storeSize, ownFits, partCauses, callCauses, checkCauses, admitted, Lent}
+use Rattle.plan.specs.Parts.{Given, lend, given, linkStart, lengthsFit, valuesFit, fullSize, ownFits, partCauses, callCauses, checkCauses, admitted, Lent}
 use Rattle.plan.specs.declared.numbers.Plan.{Plan}
 use Rattle.plan.specs.declared.numbers.Checked.the-variants.{Accepted, Refused}
 use Rattle.plan.specs.declared.admission.Own.{Own}
@@ -33,8 +33,8 @@ use Rattle.plan.proofs.Bounds.{prime-low}
 use Rattle.plan.proofs.Refusals.{orElse, first-append, none-met, answer-refuses, answer-gives, refused-answer, given-answer}
 use Rattle.plan.proofs.Limits.{within-of, radices-of, numbers-same, refused-number, accepted-plan}
 
-pub size-limit : (C : ℕ) → C ≤ 1024 → storeSize C ≤ 1049600
-unfolding storeSize
+pub size-limit : (C : ℕ) → C ≤ 1024 → fullSize C ≤ 1049600
+unfolding fullSize
 size-limit C l = let l′ : C + 1 ≤ 1025 = omega arith in mul-le-mul l l′
 
 pub lent-of : (G : Given) (fits : Bool) → Within (G .numbers) → radicesFit (G .numbers .p) (G .radices) ≡ true → product (G .radices) ≤ 4096

@@ -6,7 +6,8 @@
 --     linkStart P k               where link k's weights begin: after the n + i weights of each link i before it
 --     lengthsFit P w T d          each part has the length that the plan says, as a test
 --     valuesFit P w T d           each weight and table value is below p, as a test
---     storeSize C                 the bytes of a store, "C rows of C+1 bytes"
+--     storeSize C                 the bytes of a store, "C(C+1)/2 + C bytes" (02, C-16)
+--     fullSize C                  the bytes of a store in the layout before that, "C rows of C+1 bytes"
 --     ownFits own P               the call's own parts have the lengths that the plan says: a row or β has C places, digits are n
 --     partCauses G fits           causes 4 ("cause 4 their number", of the radices) and 5; fits says whether the call's own parts have their lengths
 --     callCauses G own rest       all causes of a call that is lent a plan: 1 to 3, 4 and 5, then the rest, the call's own
@@ -16,7 +17,7 @@
 use mathlib.Core.Path.{_≡_}
 use mathlib.Core.Bool.{Bool, true, not, _&&_}
 use mathlib.Core.List.{List, [], _∷_, _++_}
-use Prim.Native.Nat.{ℕ, _+_, _*_}
+use Prim.Native.Nat.{ℕ, _+_, _*_, _/_}
 use lib.Dec.{eqb}
 use lib.ListN.{length}
 use Rattle.lists.specs.Places.{sum}
@@ -26,7 +27,7 @@ use Rattle.plan.specs.Causes.{first, Answer, answer}
 use Rattle.plan.specs.Numbers.{variables, columns, numberCauses, plan, numbersOf, Radices}
 use Rattle.plan.specs.declared.numbers.Plan.{Plan}
 use Rattle.plan.specs.declared.admission.Own.{Own}
-use Rattle.plan.specs.declared.admission.Own.the-variants.{Nothing, Row, Store, StoreAndRow, Digits}
+use Rattle.plan.specs.declared.admission.Own.the-variants.{Nothing, Row, Store, StoreAndRow, StoreAndFull, Digits}
 
 pub record Given : Type 0 where
   pub numbers : Plan
@@ -52,14 +53,19 @@ unfoldable pub valuesFit : Plan → List ℕ → List ℕ → List ℕ → Bool
 valuesFit P w T d = allBelow (P .p) w && (allBelow (P .p) T && allBelow (P .p) d)
 
 unfoldable pub storeSize : ℕ → ℕ
-storeSize C = C * (C + 1)
+storeSize C = C * (C + 1) / 2 + C
 
--- "a lent part (weights, tables, d, row, β, store, digits) of another length than the plan says": the last four, by the lengths lent
+unfoldable pub fullSize : ℕ → ℕ
+fullSize C = C * (C + 1)
+
+-- "a lent part (weights, tables, d, row, β, store, digits) of another length than the plan says": the last four, by the lengths lent. A move is
+-- lent a store in either layout
 abbrev pub ownFits : Own → Plan → Bool
 ownFits Nothing P = true
 ownFits (Row k) P = eqb k (columns P)
 ownFits (Store k) P = eqb k (storeSize (columns P))
 ownFits (StoreAndRow k j) P = eqb k (storeSize (columns P)) && eqb j (columns P)
+ownFits (StoreAndFull k j) P = eqb k (storeSize (columns P)) && eqb j (fullSize (columns P))
 ownFits (Digits k) P = eqb k (P .n)
 
 abbrev pub partCauses : Given → Bool → List (ℕ × Bool)

@@ -13,6 +13,7 @@ pub enum Own {
     Row(usize),
     Store(usize),
     StoreAndRow(usize, usize),
+    StoreAndFull(usize, usize),
     Digits(usize),
 }
 
@@ -20,6 +21,14 @@ pub enum Own {
 pub fn store_size(c: usize) -> usize
     requires { ⌜ c ≤ 1024 ⌝ }
     ensures { λ r. ⌜ r ≡ specs.storeSize c ⌝ }
+{
+    c * (c + 1) / 2 + c
+}
+
+// The same in the layout before: C rows of C + 1 bytes.
+fn full_size(c: usize) -> usize
+    requires { ⌜ c ≤ 1024 ⌝ }
+    ensures { λ r. ⌜ r ≡ specs.fullSize c ⌝ }
 {
     c * (c + 1)
 }
@@ -39,6 +48,12 @@ fn own_fits(own: Own, plan: Plan) -> bool
                 return false;
             }
             j == c
+        }
+        Own::StoreAndFull(k, j) => {
+            if k != store_size(c) {
+                return false;
+            }
+            j == full_size(c)
         }
         Own::Digits(k) => k == plan.n,
     }

@@ -25,18 +25,6 @@ pub enum Reread {
     RefusedAt(u8, usize),
 }
 
-// The bytes of a list over those of another that has as many.
-fn copy(bytes: &[u8], out: &mut [u8])
-    requires { ⌜ length (now bytes) ≡ length (now out) ⌝ }
-    ensures { λ _. ⌜ now (out .exit) ≡ now (bytes .entry) ⌝ }
-{
-    let mut i: usize = 0;
-    while i < out.len() {
-        out[i] = bytes[i];
-        i += 1;
-    }
-}
-
 // Whether three numbers are the figures of a listing.
 fn figures_match(plan: Plan, weights: &[u8], d: &[u8], beta: &[u8], found: &[usize]) -> bool
     requires { ⌜ Within plan ⌝ }
@@ -91,7 +79,7 @@ pub fn read_steps(
             if !is_written(plan, weights, d, steps, &mut found[..c]) {
                 return 15;
             }
-            copy(&found[..c], beta);
+            field::copy(beta, &found[..c]);
             0
         }
     }
@@ -122,7 +110,7 @@ fn read_text(plan: Plan, weights: &[u8], d: &[u8], text: &[u8], beta: &mut [u8])
             if !figures_match(plan, weights, d, &found[..c], &figures) {
                 return Reread::RefusedAt(15, 1);
             }
-            copy(&found[..c], beta);
+            field::copy(beta, &found[..c]);
             Reread::Read
         }
     }

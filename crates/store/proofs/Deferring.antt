@@ -14,7 +14,7 @@ use mathlib.Core.Bool.{Bool, true, false, cond}
 use mathlib.Core.Logic.{_⊎_, inl, inr, ⊎-elim}
 use mathlib.Core.List.{List, _++_}
 use Prim.Native.Nat.{ℕ, _+_, _-_, _*_, _/_, _%_, _≤_, _<_}
-use native.Mathlib.Nat.{div-mul-le-self, lt-div-mul-add, pos-of-ne-zero, mul-zero, mod-lt, le-of-lt, mul-le-mul, mul-le-mul-right}
+use native.Mathlib.Nat.{div-mul-le-self, lt-div-mul-add, pos-of-ne-zero, mul-zero, mod-lt, le-refl, le-of-lt, mul-le-mul, mul-le-mul-right}
 use native.Mathlib.Decide.{decLt, ℕ-discrete}
 use native.Mathlib.Omega.{arith}
 use lib.ListN.{length, take, drop, length-take}
@@ -30,6 +30,7 @@ use Rattle.field.specs.Rows.{plusTimes, remainders, Headroom}
 use Rattle.field.proofs.Modular.{cong-add, sum-cong, mul-mod-l}
 use Rattle.store.specs.Elimination.{ZeroRow, Reduced, residual, rowStart, cells}
 use Rattle.store.specs.Stages.{Ready, Line, deferred, factor, Poured}
+use Rattle.store.proofs.Bytes.{cells-right}
 use Rattle.store.proofs.ReducedForm.{left-zero}
 use Rattle.store.proofs.RowStarts.{start-zero, start-next}
 use Rattle.store.proofs.Pasting.{RowAt, rowTail, tail-at, tail-residues}
@@ -100,7 +101,7 @@ module _ {p C : ℕ} {store e : List ℕ} (ready : Ready p C store) (line : Line
       row-at = record { size = ready .places; inside = l; begins = w .begins }
 
       pub subtracted-next : (f′ : ℕ → ℕ) → ((j : ℕ) → j ≤ C → f′ j ≡ f j + less p C store e q j)
-          → Subtracted p C store e (q + 1) (begin + (C + 1)) f′
+          → Subtracted p C store e (q + 1) (begin + (C - q)) f′
       unfolding deferred
       subtracted-next f′ h =
           record {
@@ -114,12 +115,14 @@ module _ {p C : ℕ} {store e : List ℕ} (ready : Ready p C store) (line : Line
         unfolding factor
         times j k = elim (ℕ-discrete (cells C store q q) 0) [
           | yes z ↦ rw (row-zero p C (cells C store) (ready .reduced) q l z j k, mul-zero g) (sym (mul-zero ((p - at e q) % p)))
-          | no d ↦ ap (λ (n : ℕ). n * cells C store q j) (eg ∙ rw (w .begins, ne-eqb (cells C store q q) 0 d))
+          | no d ↦
+              let here = ap (λ (i : ℕ). at store (i + q)) (w .begins) ∙ sym (cells-right C store q q (le-refl q)) in
+              ap (λ (n : ℕ). n * cells C store q j) (eg ∙ rw (here, ne-eqb (cells C store q q) 0 d))
         ]
 
         pub factor-small : (j : ℕ) → g * at (rowTail C store begin q) j ≤ p * p
         unfolding factor
-        factor-small j = mul-le-mul low (le-of-lt (tail-residues row-at (le-of-lt l) p pos (λ j k. ready .reduced .residues q j l k) j))
+        factor-small j = mul-le-mul low (le-of-lt (tail-residues row-at (le-refl q) (le-of-lt l) p pos (λ j k. ready .reduced .residues q j l k) j))
           where
             none-or : (b : Bool) (x : ℕ) → x < p → cond b 0 x ≤ p
             none-or true x h = omega arith
@@ -142,7 +145,7 @@ module _ {p C : ℕ} {store e : List ℕ} (ready : Ready p C store) (line : Line
           place i k =
               ap (λ (xs : List ℕ). at xs i) h
               ∙ tab-at (length (take (C + 1 - q) (drop q xs))) (λ j. at (take (C + 1 - q) (drop q xs)) j + g * at (rowTail C store begin q) j) 0 i (rw cut k)
-              ∙ ap₂ (λ (a b : ℕ). a + g * b) (part-at xs q (C + 1 - q) i k) (tail-at row-at (le-of-lt l) i k)
+              ∙ ap₂ (λ (a b : ℕ). a + g * b) (part-at xs q (C + 1 - q) i k) (tail-at row-at (le-refl q) (le-of-lt l) i k)
 
           room : q + length ys ≤ length xs
           room = omega (arith, n, count)
@@ -252,7 +255,7 @@ module _ {p C : ℕ} {store e : List ℕ} {q begin left : ℕ} {acc short : List
       ]
 
       pub held-next : (ys : List ℕ) → ys ≡ plusTimes g (take (C + 1 - q) (drop q short)) (rowTail C store begin q)
-          → Held p C store e (q + 1) (begin + (C + 1)) (left - 1) acc (take q short ++ (ys ++ drop (C + 1 - q) (drop q short)))
+          → Held p C store e (q + 1) (begin + (C - q)) (left - 1) acc (take q short ++ (ys ++ drop (C + 1 - q) (drop q short)))
       held-next ys h =
           record {
             both = subtracted-next ready line (w .both) l (λ j. at acc j + at short′ j) (λ j k. omega (arith, sum j k));

@@ -7,11 +7,13 @@
 --     contradicts                     filing is a contradiction exactly when no list of C residues satisfies it together with all of K
 --     holds-filed                     the state after a filing that is no contradiction
 -- Assumes nothing.
-use mathlib.Core.Path.{_≡_, refl, sym, subst}
+use mathlib.Core.Path.{_≡_, refl, sym, subst, _∙_}
 use mathlib.Core.Bool.{true}
 use mathlib.Core.List.{List, [], _∷_, _++_, List·Memᴰ, List·Memᴰ·head, List·Memᴰ·not-nil, List·Memᴰ·append-cases, List·Memᴰ·eq-of-singleton, Memᴰ·append-left, Memᴰ·append-right}
 use mathlib.Core.Logic.{_↔_, inl, ⊎-elim, _≢_}
 use Prim.Native.Nat.{ℕ, _+_, _≤_, _<_}
+use native.Mathlib.Decide.{decLt}
+use native.Mathlib.Omega.{arith}
 use lib.ListN.{length, replicate, length-replicate}
 use Rattle.lists.specs.Places.{at}
 use Rattle.lists.proofs.Parts.{zeros-at}
@@ -20,14 +22,14 @@ use Rattle.field.specs.Residues.{Residues}
 use Rattle.plan.specs.Parts.{storeSize}
 use Rattle.store.specs.Elimination.{Satisfies, Solves, Reduced, contradiction, outcome, after, rowStart, cells, flat}
 use Rattle.store.specs.Filings.{empty}
-use Rattle.store.proofs.Bytes.{flat-length}
+use Rattle.store.proofs.Bytes.{cells-left, cells-right, flat-length}
 use Rattle.store.proofs.Combinations.{satisfies-zero}
 use Rattle.store.proofs.ReducedForm.{reduced-ext}
 use Rattle.store.proofs.SamePlaces.{solves-ext}
 use Rattle.store.proofs.Filing.{positive, stored-reduced, stored-solves}
 use Rattle.store.proofs.Contradictions.{contradiction-exactly}
 
-empty-reduced : (p C : ℕ) → oddPrime p ≡ true → Reduced p C empty
+pub empty-reduced : (p C : ℕ) → oddPrime p ≡ true → Reduced p C empty
 empty-reduced p C prime = record { residues = λ q j l k. positive p prime; rows = λ q l. inl (λ j k. refl) }
 
 empty-solves : (p C : ℕ) (β : ℕ → ℕ) → Solves p C empty β
@@ -37,7 +39,10 @@ abbrev pub zeros : ℕ → List ℕ
 zeros C = replicate (storeSize C) 0
 
 zeros-read : (C q j : ℕ) → 0 ≡ cells C (zeros C) q j
-zeros-read C q j = sym (zeros-at (storeSize C) (rowStart C q + j))
+zeros-read C q j = elim (decLt j q) [
+  | yes l ↦ sym (cells-left C (zeros C) q j l)
+  | no l ↦ sym (cells-right C (zeros C) q j (omega arith) ∙ zeros-at (storeSize C) (rowStart C q + j))
+]
 
 pub zeros-reduced : (p C : ℕ) → oddPrime p ≡ true → Reduced p C (cells C (zeros C))
 zeros-reduced p C prime = reduced-ext p C empty (cells C (zeros C)) (λ q j l k. zeros-read C q j) (empty-reduced p C prime)

@@ -5,6 +5,7 @@ pub mod RowStarts
 pub mod Bytes
 pub mod Combinations
 pub mod ReducedForm
+pub mod FullLayout
 pub mod Residuals
 pub mod Inserting
 pub mod SamePlaces
@@ -21,8 +22,11 @@ pub mod Fronts
 pub mod Pasting
 pub mod SoundRows
 pub mod RowStates
+pub mod RowTests
 pub mod OneReading
+pub mod Layouts
 pub mod TakingRows
+pub mod RowMoves
 pub mod Multiples
 pub mod Deferring
 pub mod Freeing
@@ -34,3 +38,4 @@ pub mod Readiness
 pub mod OneReducedForm
 pub mod Standings
 pub mod SettledEntries
+pub mod SameCalls

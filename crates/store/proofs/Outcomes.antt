@@ -3,12 +3,10 @@
 --     left-length, left-at, left-line, last-at    its length, a place of it at the longer list's front, that it is a line, its right-hand side
 --     LeadAt, lead-of        k is the residual's lead; the place found among the first C is it
 --     lead-left              left of it the residual is zero
---     free-row               its row is free
 --     new-answer, new-store             a new equation
 --     conflict-answer, implied-answer, same-store       a contradiction and an implied equation, which leave the store
 -- Assumes nothing.
 use mathlib.Core.Path.{_≡_, refl, sym, ap, subst⁻¹, _∙_}
-use mathlib.Core.Logic.{⊎-elim}
 use mathlib.Core.List.{List, _++_}
 use Prim.Native.Nat.{ℕ, _+_, _≤_, _<_}
 use native.Mathlib.Nat.{le-of-lt}
@@ -20,13 +18,13 @@ use Rattle.lists.specs.Places.{tab, at}
 use Rattle.lists.proofs.Tabs.{tab-length, tab-at}
 use Rattle.field.proofs.Ranges.{residues-tab}
 use Rattle.plan.specs.Parts.{storeSize}
-use Rattle.store.specs.Elimination.{ZeroRow, Reduced, residual, lead, normal, inserted, outcome, after, cells, flat}
+use Rattle.store.specs.Elimination.{residual, lead, normal, inserted, outcome, after, cells, flat}
 use Rattle.store.specs.Stages.{Line}
 use Rattle.store.specs.Calls.{answerOf, answered}
 use Rattle.store.specs.declared.elimination.Filed.the-variants.{New, Implied, Refused}
-use Rattle.store.proofs.Leads.{lead-ext, lead-before, lead-nonzero}
+use Rattle.store.proofs.Leads.{lead-ext, lead-before}
 use Rattle.store.proofs.Bytes.{flat-cells, flat-ext}
-use Rattle.store.proofs.Residuals.{residual-small, residual-pivot}
+use Rattle.store.proofs.Residuals.{residual-small}
 use Rattle.store.proofs.SamePlaces.{normal-ext, inserted-ext}
 use Rattle.store.proofs.Fronts.{front-list, front-length, front-room}
 
@@ -84,15 +82,6 @@ module _ {p C : ℕ} {store : List ℕ} {e : ℕ → ℕ} {k : ℕ} (found : Lea
   lead-left j l = lead-before (residual p C (cells C store) e) C j (omega (arith, g))
 
   module _ (l : k < C) where
-    pub free-row : Reduced p C (cells C store) → ((j : ℕ) → j ≤ C → e j < p) → ZeroRow C (cells C store) k
-    free-row red small =
-        ⊎-elim (λ z. z)
-        (λ v.
-        absurd
-        (lead-nonzero (residual p C (cells C store) e) C (rw g at l)
-        (ap (residual p C (cells C store) e) (sym g) ∙ residual-pivot p C (cells C store) e k l (small k (le-of-lt l)) v)))
-        (red .rows k l)
-
     pub new-answer : answerOf (New k) ≡ answered (outcome p C (cells C store) e)
     unfolding outcome
     new-answer = rw (sym g, lt-ltb k C l)
@@ -103,8 +92,9 @@ module _ {p C : ℕ} {store : List ℕ} {e : ℕ → ℕ} {k : ℕ} (found : Lea
     new-store res same =
         rw (sym g, lt-ltb k C l)
         (flat-ext C (inserted p (cells C store) (normal p res k) k) (inserted p (cells C store) (normal p (residual p C (cells C store) e) k) k)
-        (inserted-ext p C (cells C store) (cells C store) (λ q j a b. refl) (normal p res k) (normal p (residual p C (cells C store) e) k) k l
-        (normal-ext p C res (residual p C (cells C store) e) k (le-of-lt l) same)))
+        (λ q j a low b.
+        inserted-ext p C (cells C store) (cells C store) (λ q j a b. refl) (normal p res k) (normal p (residual p C (cells C store) e) k) k l
+        (normal-ext p C res (residual p C (cells C store) e) k (le-of-lt l) same) q j a b))
 
   module _ (l : C ≤ k) where
     pub conflict-answer : (residual p C (cells C store) e C ≡ 0 → ⊥) → answerOf (Refused 9) ≡ answered (outcome p C (cells C store) e)

@@ -4,8 +4,8 @@
 --     isPivot-means       the test of a pivot is a pivot
 --     isReduced-means     the test of reduced form is reduced form
 --     reduced-ext         reduced form depends on the places of the C rows alone
---     flat-reads, flat-reduced      a reduced store's bytes are read as it is, so that they are a reduced store
 --     left-zero           left of its diagonal a row is zero
+--     flat-reads, flat-reduced      a reduced store's bytes are read as it is, so that they are a reduced store
 --     off-pivot           for rows q and r, not the same, row q is zero in column r or row r is zero everywhere
 -- Assumes nothing.
 use mathlib.Core.Path.{_≡_, refl, sym, _∙_}
@@ -118,14 +118,14 @@ reduced-ext p C S S′ h r =
         }
 
 module _ (p C : ℕ) (S : ℕ → ℕ → ℕ) (red : Reduced p C S) where
+  pub left-zero : (q j : ℕ) → q < C → j < q → S q j ≡ 0
+  left-zero q j l h = ⊎-elim (λ z. z j (omega arith)) (λ v. v .left j h) (red .rows q l)
+
   pub flat-reads : (q j : ℕ) → q < C → j ≤ C → cells C (flat C S) q j ≡ S q j
-  flat-reads = cells-flat C S
+  flat-reads q j l k = cells-flat C S q j l k (left-zero q j l)
 
   pub flat-reduced : Reduced p C (cells C (flat C S))
   flat-reduced = reduced-ext p C S (cells C (flat C S)) (λ q j l k. sym (flat-reads q j l k)) red
-
-  pub left-zero : (q j : ℕ) → q < C → j < q → S q j ≡ 0
-  left-zero q j l h = ⊎-elim (λ z. z j (omega arith)) (λ v. v .left j h) (red .rows q l)
 
 -- reduced form, of two rows
 pub off-pivot : (p C : ℕ) (S : ℕ → ℕ → ℕ) → Reduced p C S → (q r : ℕ) → q < C → r < C → q ≢ r → (S q r ≡ 0) ⊎ ZeroRow C S r

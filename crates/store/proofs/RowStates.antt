@@ -1,28 +1,27 @@
 -- What the state of the store test knows, and that it knows it with one row more.
---     Tops           the columns after q rows: column j is at most k exactly when each counted row is so there. All rows are counted while the column is
---                    open, those below its diagonal once it is closed
---     Known          what the state says is so: of the columns, and whether each row taken is sound
+--     Tops           the columns after q rows, from column q on: the one of column j is at most k exactly when each row is so there
+--     Known          what the state says is so: whether each row taken is sound, and, while it is, of the columns
 --     known-next     one row more
 -- Assumes nothing.
 use mathlib.Core.Path.{_≡_, refl, sym, ap, _∙_}
 use mathlib.Core.Bool.{Bool, true, false, cond, _&&_}
-use mathlib.Core.Logic.{_⊎_, inl, inr, ⊎-elim, ⊎-map, _↔_, _≢_}
+use mathlib.Core.Logic.{_⊎_, inl, inr, ⊎-elim, ⊎-map, _↔_}
 use mathlib.Core.List.{List}
 use Prim.Native.Nat.{ℕ, _+_, _-_, _≤_, _<_, max}
-use native.Mathlib.Nat.{le-max-left, le-max-right, le-of-lt}
+use native.Mathlib.Nat.{le-max-left, le-max-right, le-of-lt, add-zero}
 use native.Mathlib.Decide.{decLt, ℕ-discrete}
 use native.Mathlib.Omega.{arith}
 use lib.Dec.{eqb, ltb}
-use lib.ListN.{length, length-set}
-use lib.Seq.{getD-set-same, getD-set-other}
-use borrow.Author.Tests.{eq-eqb, eqb-true, lt-ltb, ltb-true}
+use lib.ListN.{length, drop, length-drop}
+use lib.Seq.{getD-drop}
+use borrow.Author.Tests.{eq-eqb, ne-eqb, eqb-true, lt-ltb, ltb-true}
 use Rattle.lists.specs.Places.{at}
 use Rattle.lists.proofs.Tests.{refute, both, both-true}
 use Rattle.lists.proofs.Tabs.{tab-length, tab-at}
 use Rattle.lists.proofs.Parts.{at-past}
 use Rattle.field.specs.Residues.{Residues}
 use Rattle.field.specs.Rows.{allBelow, maxima}
-use Rattle.field.proofs.Ranges.{residues-of, below-of}
+use Rattle.field.proofs.Ranges.{residues-of, below-of, maxima-none}
 use Rattle.store.specs.Elimination.{ZeroRow}
 use Rattle.store.specs.Reading.{State, rowSound, counted, took}
 use Rattle.store.proofs.SoundRows.{Sound}
@@ -34,117 +33,124 @@ sides false x y h = inr (refl, h)
 
 module _ (p C : ℕ) (S : ℕ → ℕ → ℕ) where
   abbrev pub Tops : ℕ → List ℕ → Type 0
-  Tops q tops = (j k : ℕ) → j ≤ C → (at tops j ≤ k) ↔ ((r : ℕ) → r < q → (j < q → j < r) → S r j ≤ k)
+  Tops q tops = (i k : ℕ) → q + i ≤ C → (at tops i ≤ k) ↔ ((r : ℕ) → r < q → S r (q + i) ≤ k)
 
-  pub record Known (s : State) : Type 0 where
-    pub places : length (s .tops) ≡ C + 1
-    pub tops : Tops (s .row) (s .tops)
-    pub sound : (s .sound ≡ true) ↔ ((r : ℕ) → r < s .row → Sound p C S r)
+  pub record Known (q : ℕ) (s : State) : Type 0 where
+    pub places : length (s .tops) ≡ C + 1 - q
+    pub tops : s .sound ≡ true → Tops q (s .tops)
+    pub sound : (s .sound ≡ true) ↔ ((r : ℕ) → r < q → Sound p C S r)
 
-  -- one row more, row q, by its places
-  module _ (low : 2 ≤ p) (s : State) (w : Known s) (row : List ℕ) (count : length row ≡ C + 1) (l : s .row < C)
-      (place : (j : ℕ) → j ≤ C → at row j ≡ S (s .row) j) where
-    abbrev q : ℕ
-    q = s .row
+  -- one row more, row q, which is zero left of its diagonal, by its places from there on
+  module _ (low : 2 ≤ p) (q : ℕ) (s : State) (w : Known q s) (row : List ℕ) (count : length row ≡ C + 1 - q) (l : q < C)
+      (left : (j : ℕ) → j < q → S q j ≡ 0) (place : (i : ℕ) → q + i ≤ C → at row i ≡ S q (q + i)) where
+    diagonal : at row 0 ≡ S q q
+    diagonal = place 0 (omega arith) ∙ ap (S q) (add-zero q)
 
     zero-means : (allBelow 1 row ≡ true) ↔ ZeroRow C S q
-    zero-means = ((λ t j h. sym (place j h) ∙ omega (arith, residues-of 1 row (omega arith) t j)), (λ z. below-of 1 row (small z)))
+    zero-means = (zero-row, (λ z. below-of 1 row (small z)))
       where
+        zero-row : allBelow 1 row ≡ true → ZeroRow C S q
+        zero-row t j h = elim (decLt j q) [
+          | yes b ↦ left j b
+          | no b ↦
+              let e : q + (j - q) ≡ j = omega arith in
+              ap (S q) (sym e) ∙ sym (place (j - q) (omega arith)) ∙ omega (arith, residues-of 1 row (omega arith) t (j - q))
+        ]
+
         small : ZeroRow C S q → Residues 1 row
-        small z i = elim (decLt C i) [
+        small z i = elim (decLt C (q + i)) [
           | yes b ↦ omega (arith, at-past row i (omega (arith, count)))
-          | no b ↦ omega (arith, place i (omega arith), z i (omega arith))
+          | no b ↦ omega (arith, place i (omega arith), z (q + i) (omega arith))
         ]
 
     above : ℕ
-    above = at (s .tops) q
+    above = at (s .tops) 0
 
-    -- column q is open
-    above-means : (k : ℕ) → (above ≤ k) ↔ ((i : ℕ) → i < q → S i q ≤ k)
+    above-means : s .sound ≡ true → (k : ℕ) → (above ≤ k) ↔ ((i : ℕ) → i < q → S i q ≤ k)
     unfolding above
-    above-means k = (
-      (λ h i b. w .tops q k (le-of-lt l) .0 h i b (λ n. absurd (omega arith))),
-      (λ h. w .tops q k (le-of-lt l) .1 (λ i b n. h i b)),
-    )
+    above-means so k =
+        let here : q + 0 ≡ q = add-zero q in
+        ((λ h i b. rw here at (w .tops so 0 k (omega arith) .0 h i b)), (λ h. w .tops so 0 k (omega arith) .1 (λ i b. rw here (h i b))))
 
-    sound-of : rowSound p q above row ≡ true → Sound p C S q
+    sound-of : s .sound ≡ true → rowSound p above row ≡ true → Sound p C S q
     unfolding rowSound
-    sound-of e =
+    sound-of so e =
         ⊎-map
         (λ z.
         let k : above ≤ p - 1 = omega (arith, ltb-true above p (z .1)) in
-        (zero-means .0 (z .0), λ i h. omega (arith, above-means (p - 1) .0 k i h)))
+        (zero-means .0 (z .0), λ i h. omega (arith, above-means so (p - 1) .0 k i h)))
         (λ o.
-        let t = both-true (eqb above 0) (eqb (at row q) 1) (o .1) in
+        let t = both-true (eqb above 0) (eqb (at row 0) 1) (o .1) in
         let k : above ≤ 0 = omega (arith, eqb-true above 0 (t .0)) in
-        (sym (place q (le-of-lt l)) ∙ eqb-true (at row q) 1 (t .1), λ i h. omega (arith, above-means 0 .0 k i h)))
-        (sides (allBelow 1 row) (ltb above p) (eqb above 0 && eqb (at row q) 1) e)
+        (sym diagonal ∙ eqb-true (at row 0) 1 (t .1), λ i h. omega (arith, above-means so 0 .0 k i h)))
+        (sides (allBelow 1 row) (ltb above p) (eqb above 0 && eqb (at row 0) 1) e)
 
-    of-sound : Sound p C S q → rowSound p q above row ≡ true
+    of-sound : s .sound ≡ true → Sound p C S q → rowSound p above row ≡ true
     unfolding rowSound
-    of-sound v =
+    of-sound so v =
         ⊎-elim
         (λ z.
-        let k : above ≤ p - 1 = above-means (p - 1) .1 (λ i h. omega (arith, z .1 i h)) in
+        let k : above ≤ p - 1 = above-means so (p - 1) .1 (λ i h. omega (arith, z .1 i h)) in
         rw (zero-means .1 (z .0)) (lt-ltb above p (omega arith)))
         (λ o.
-        let k : above ≤ 0 = above-means 0 .1 (λ i h. omega (arith, o .1 i h)) in
+        let k : above ≤ 0 = above-means so 0 .1 (λ i h. omega (arith, o .1 i h)) in
         rw (refute (allBelow 1 row) (λ t. omega (arith, zero-means .0 t q (le-of-lt l), o .0)))
-        (both (eqb above 0) (eqb (at row q) 1) (eq-eqb above 0 (omega arith)) (eq-eqb (at row q) 1 (place q (le-of-lt l) ∙ o .0))))
+        (both (eqb above 0) (eqb (at row 0) 1) (eq-eqb above 0 (omega arith)) (eq-eqb (at row 0) 1 (diagonal ∙ o .0))))
         v
 
-    abbrev next : List ℕ
-    next = counted q (s .tops) row
-
-    width : length (maxima (s .tops) row) ≡ C + 1
-    width = tab-length (length (s .tops)) (λ j. max (at (s .tops) j) (at row j)) ∙ w .places
-
-    places-next : length next ≡ C + 1
+    -- a sound row is counted as any: without a pivot it is zero, and raises nothing
+    same-counted : Sound p C S q → counted (s .tops) row ≡ maxima (s .tops) row
     unfolding counted
-    places-next = length-set (maxima (s .tops) row) q 0 ∙ width
+    same-counted v =
+        ⊎-elim (λ z. rw (eq-eqb (at row 0) 0 (diagonal ∙ z .0 q (le-of-lt l))) (maxima-none (s .tops) row (zero-means .1 (z .0))))
+        (λ o. rw (ne-eqb (at row 0) 0 (λ e. omega (arith, diagonal, o .0)))) v
 
-    closed : at next q ≡ 0
+    width : length (counted (s .tops) row) ≡ C + 1 - q
     unfolding counted
-    closed = getD-set-same (maxima (s .tops) row) q 0 0 (omega (arith, width))
-
-    other : (j : ℕ) → j ≤ C → j ≢ q → at next j ≡ max (at (s .tops) j) (S q j)
-    unfolding counted
-    other j h d =
-        getD-set-other (maxima (s .tops) row) q j 0 0 d
-        ∙ tab-at (length (s .tops)) (λ j. max (at (s .tops) j) (at row j)) 0 j (omega (arith, w .places))
-        ∙ ap (max (at (s .tops) j)) (place j h)
-
-    tops-next : Tops (q + 1) next
-    tops-next j k h = elim (ℕ-discrete j q) [
-      | yes e ↦ ((λ b r m n. absurd (omega (arith, n (omega arith)))), (λ b. omega (arith, ap (at next) e, closed)))
-      | no d ↦
-          let o = other j h d in (
-            (λ b r m n. elim (ℕ-discrete r q) [
-              | yes e ↦ omega (arith, ap (λ (i : ℕ). S i j) e, le-max-right (at (s .tops) j) (S q j))
-              | no f ↦
-                  let a : at (s .tops) j ≤ k = omega (arith, le-max-left (at (s .tops) j) (S q j)) in
-                  w .tops j k h .0 a r (omega arith) (λ i. n (omega arith))
-            ]),
-            (λ b.
-                let a : at (s .tops) j ≤ k = w .tops j k h .1 (λ r m n. b r (omega arith) (λ i. n (omega arith))) in
-                let c : S q j ≤ k = b q (omega arith) (λ i. omega arith) in
-                omega arith),
-          )
+    width = elim (ℕ-discrete (at row 0) 0) [
+      | yes e ↦ rw (eq-eqb (at row 0) 0 e) (w .places)
+      | no d ↦ rw (ne-eqb (at row 0) 0 d) (tab-length (length (s .tops)) (λ j. max (at (s .tops) j) (at row j)) ∙ w .places)
     ]
 
-    pub known-next : Known (took p s row)
+    -- column q + 1 + i
+    column : Sound p C S q → (i : ℕ) → q + 1 + i ≤ C → at (drop 1 (counted (s .tops) row)) i ≡ max (at (s .tops) (1 + i)) (S q (q + (1 + i)))
+    column v i h =
+        getD-drop 1 (counted (s .tops) row) i 0
+        ∙ ap (λ (xs : List ℕ). at xs (1 + i)) (same-counted v)
+        ∙ tab-at (length (s .tops)) (λ j. max (at (s .tops) j) (at row j)) 0 (1 + i) (omega (arith, w .places))
+        ∙ ap (max (at (s .tops) (1 + i))) (place (1 + i) (omega arith))
+
+    tops-next : s .sound ≡ true → Sound p C S q → Tops (q + 1) (drop 1 (counted (s .tops) row))
+    tops-next so v i k h =
+        let e : q + 1 + i ≡ q + (1 + i) = omega arith in
+        let o = column v i h in (
+          (λ b r m. rw e (elim (ℕ-discrete r q) [
+            | yes d ↦ omega (arith, ap (λ (n : ℕ). S n (q + (1 + i))) d, le-max-right (at (s .tops) (1 + i)) (S q (q + (1 + i))))
+            | no d ↦
+                let a : at (s .tops) (1 + i) ≤ k = omega (arith, le-max-left (at (s .tops) (1 + i)) (S q (q + (1 + i)))) in
+                w .tops so (1 + i) k (omega arith) .0 a r (omega arith)
+          ])),
+          (λ b.
+              let a : at (s .tops) (1 + i) ≤ k = w .tops so (1 + i) k (omega arith) .1 (λ r m. rw e at (b r (omega arith))) in
+              let c : S q (q + (1 + i)) ≤ k = rw e at (b q (omega arith)) in
+              omega arith),
+        )
+
+    pub known-next : Known (q + 1) (took p s row)
     unfolding above
     known-next =
         record {
-          places = places-next;
-          tops = tops-next;
+          places = length-drop 1 (counted (s .tops) row) ∙ omega (arith, width);
+          tops = λ t. let b = both-true (rowSound p above row) (s .sound) t in tops-next (b .1) (sound-of (b .1) (b .0));
           sound = (
             (λ t r m.
-                let b = both-true (rowSound p q above row) (s .sound) t in
+                let b = both-true (rowSound p above row) (s .sound) t in
                 elim (ℕ-discrete r q) [
-                  | yes e ↦ rw e (sound-of (b .0))
+                  | yes e ↦ rw e (sound-of (b .1) (b .0))
                   | no d ↦ w .sound .0 (b .1) r (omega arith)
                 ]),
-            (λ all. both (rowSound p q above row) (s .sound) (of-sound (all q (omega arith))) (w .sound .1 (λ r m. all r (omega arith)))),
+            (λ all.
+                let so = w .sound .1 (λ r m. all r (omega arith)) in
+                both (rowSound p above row) (s .sound) (of-sound so (all q (omega arith))) so),
           );
         }

@@ -87,5 +87,5 @@ pub stores-equal : (p C : ℕ) → oddPrime p ≡ true → (store store′ : Lis
     → store ≡ store′
 stores-equal p C prime store store′ n n′ red red′ h =
     sym (flat-cells C store n)
-    ∙ flat-ext C (cells C store) (cells C store′) (reduced-unique p C prime (cells C store) (cells C store′) red red′ h)
+    ∙ flat-ext C (cells C store) (cells C store′) (λ q j l low k. reduced-unique p C prime (cells C store) (cells C store′) red red′ h q j l k)
     ∙ flat-cells C store′ n′

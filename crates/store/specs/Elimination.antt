@@ -1,5 +1,4 @@
--- 01, "The store": equations, reduced form, filing in closed form, reading off. Stands on `inverse` of `field`
--- and `storeSize` of `plan`.
+-- 01, "The store": equations, reduced form, filing in closed form, reading off; and 02, C-16: the layout. Stands on `inverse` of `field`.
 -- An equation is read by place: places 0 to C - 1 are its coefficients, place C is its right-hand side. A store is read by row and
 -- column, S q j, each of its C rows an equation. Because the store is in reduced form, all multipliers of an elimination are known at
 -- once, so filing is a formula and not an algorithm.
@@ -17,18 +16,17 @@
 --     outcome p C S e        what filing e answers
 --     after p C S e          the store after filing e
 --     readOff C S q          coefficient q read off: the right-hand side of row q
---     rowStart C q           where row q starts: the rows stand one after the other, `storeSize C` bytes in all
---     cells C store          a store's bytes read by row and column
---     flat C S               the bytes of such a reading
+--     rowStart C q           where column 0 of row q would stand: row q starts q places behind it, with its column q
+--     cells C store          a store's bytes read by row and column: what is not kept is 0
+--     flat C S               the bytes of such a reading, `storeSize C` of `plan`
 use mathlib.Core.Path.{_≡_}
 use mathlib.Core.Bool.{Bool, cond, _&&_, _||_}
 use mathlib.Core.Logic.{_⊎_, _≢_}
-use Prim.Native.Nat.{ℕ, zero, suc, _+_, _-_, _*_, _/_, _%_, _≤_, _<_}
+use Prim.Native.Nat.{ℕ, zero, suc, _+_, _-_, _*_, _%_, _≤_, _<_}
 use lib.Dec.{eqb, ltb}
 use mathlib.Core.List.{List}
-use Rattle.lists.specs.Places.{sum, tab, every, at}
+use Rattle.lists.specs.Places.{sum, tab, joined, every, at}
 use Rattle.field.specs.Residues.{inverse}
-use Rattle.plan.specs.Parts.{storeSize}
 
 abbrev pub Satisfies : ℕ → ℕ → (ℕ → ℕ) → (ℕ → ℕ) → Type 0
 Satisfies p C e β = sum (λ j. e j * β j) C % p ≡ e C % p
@@ -87,12 +85,13 @@ after p C S e =
 abbrev pub readOff : ℕ → (ℕ → ℕ → ℕ) → ℕ → ℕ
 readOff C S q = S q C
 
--- "C rows of C+1 bytes", row after row
+-- "Left of its pivot a row is all zero, so the new store keeps of row q only columns q to C−1 and the right-hand side", row after row. Each row r
+-- keeps C + 1 - r bytes, so row q starts, with its column q, at rowStart C q + q
 unfoldable pub rowStart : ℕ → ℕ → ℕ
-rowStart C q = q * (C + 1)
+rowStart C q = sum (λ r. C - r) q
 
-abbrev pub cells : ℕ → List ℕ → ℕ → ℕ → ℕ
-cells C store q j = at store (rowStart C q + j)
+unfoldable pub cells : ℕ → List ℕ → ℕ → ℕ → ℕ
+cells C store q j = cond (ltb j q) 0 (at store (rowStart C q + j))
 
 unfoldable pub flat : ℕ → (ℕ → ℕ → ℕ) → List ℕ
-flat C S = tab (storeSize C) (λ k. S (k / (C + 1)) (k % (C + 1)))
+flat C S = joined (λ q. tab (C + 1 - q) (λ j. S q (q + j))) C

@@ -1,7 +1,7 @@
 -- The stages of a filing as the code goes through them, for the contracts of the functions below `file`; what they come to is said by
 -- `Elimination`, on which this stands with the row operations of `field`. 01, "The store", of the last stage: "Clearing a column from a row
 -- writes that row alone, from that column onward."
---     Ready p C store        the store that an equation is filed into: C rows of C + 1 bytes, in reduced form
+--     Ready p C store        the store that an equation is filed into: as long as it must be, and in reduced form
 --     Line p C xs            a line of the store or an equation: C + 1 residues
 --     deferred p S e n j     e less its coefficients times the first n rows, at place j, with nothing reduced yet
 --     factor p f d           what a row with d on the diagonal is multiplied by, so that f times it is subtracted

@@ -1,4 +1,5 @@
-// Filing an equation into a store in reduced form.
+// Filing an equation into a store in reduced form. A loop over the rows runs `begin` along, where column 0 of row q would stand: the row itself
+// is kept from column q on, and the next one begins c - q behind.
 ghost use mathlib.Core.Path.{_≡_};
 ghost use Prim.Native.Nat.{ℕ, _+_, _-_, _*_, _%_, _≤_, _<_};
 ghost use lib.ListN.{length};
@@ -59,7 +60,7 @@ fn defer_wide(acc: &mut [u32], store: &[u8], e: &[u8], c: usize, p: u8)
         let end = begin + width;
         let g = factor(e[q], store[a], p);
         field::accumulate(&mut acc[q..width], &store[a..end], g);
-        begin = end;
+        begin += c - q;
         q += 1;
     }
 }
@@ -99,7 +100,7 @@ fn defer_short(acc: &mut [u32], short: &mut [u16], store: &[u8], e: &[u8], c: us
         let g = factor(e[q], store[a], p);
         field::accumulate_short(&mut short[q..width], &store[a..end], g);
         left -= 1;
-        begin = end;
+        begin += c - q;
         q += 1;
     }
     field::pour(acc, short);
@@ -162,7 +163,7 @@ fn clear_row(row: &mut [u8], pivot: &[u8], p: u8)
     field::add_multiple(row, pivot, p - f, p);
 }
 
-// Column k cleared by the pivot from the rows above k. The rows below have 0 there. Answers where row k starts.
+// Column k cleared by the pivot from the rows above k. The rows below have 0 there. Answers where column 0 of row k would stand.
 fn clear_above(store: &mut [u8], pivot: &[u8], k: usize, c: usize, p: u8) -> usize
     requires { ⌜ Ready p c (now store) ⌝ }
     requires { ⌜ Line p c (now pivot) ⌝ }
@@ -178,19 +179,18 @@ fn clear_above(store: &mut [u8], pivot: &[u8], k: usize, c: usize, p: u8) -> usi
         let a = begin + k;
         let end = begin + width;
         clear_row(&mut store[a..end], &pivot[k..width], p);
-        begin = end;
+        begin += c - r;
         r += 1;
     }
     begin
 }
 
-// The residual res inserted as row k, the column of its first coefficient, whose row is free: made normal, and column k cleared.
+// The residual res inserted as row k, the column of its first coefficient: made normal, and column k cleared.
 fn insert_row(store: &mut [u8], res: &[u8], k: usize, c: usize, p: u8)
     requires { ⌜ Ready p c (now store) ⌝ }
     requires { ⌜ Line p c (now res) ⌝ }
     requires { ⌜ k < c ⌝ }
     requires { ⌜ ((j : ℕ) → j < k → at (now res) j ≡ 0) ⌝ }
-    requires { ⌜ specs.ZeroRow c (cells c (now store)) k ⌝ }
     ensures { λ _. ⌜ now (store .exit) ≡ flat c (specs.inserted p (cells c (now (store .entry))) (specs.normal p (at (now (res .entry))) k) k) ⌝ }
 {
     let mut pivot = [0u8; Plan::COLUMNS + 1];
@@ -286,12 +286,11 @@ pub fn read_off(store: &[u8], c: usize, beta: &mut [u8])
     requires { ⌜ length (now beta) ≡ c ⌝ }
     ensures { λ _. ⌜ now (beta .exit) ≡ calls.coefficients c (now (store .entry)) ⌝ }
 {
-    let width = c + 1;
     let mut a = c;
     let mut q: usize = 0;
     while q < c {
         beta[q] = store[a];
-        a += width;
+        a += c - q;
         q += 1;
     }
 }

@@ -1,10 +1,11 @@
-// The store: reduced form, filing, which outputs are settled, reading off.
+// The store: reduced form, filing, which outputs are settled, reading off, and the moves from the layout before and back.
 //
-// A host or a program calls `test`, `file`, `settle` and `coefficients`, which take any numbers and bytes. `text` calls `read_off` too, on a store
-// that it knows to be in reduced form. How long a store is, is asked of `store_size`. Stands on `plan` and `field`. Renders 01, "The store"
-// and causes 6 to 9; 02, C-11 and C-12; the theory of elimination is in proofs/.
+// A host or a program calls `test`, `file`, `settle`, `coefficients`, `to_half` and `to_full`, which take any numbers and bytes. `text` calls
+// `read_off` too, on a store that it knows to be in reduced form. How long a store is, is asked of `store_size`. Stands on `plan` and `field`.
+// Renders 01, "The store" and causes 6 to 9; 02, C-11 to C-13 and C-16; the theory of elimination is in proofs/.
 mod calls;
 mod elimination;
+mod moving;
 mod reduced;
 mod settling;
 
@@ -12,6 +13,8 @@ pub use calls::coefficients;
 pub use calls::file;
 pub use calls::settle;
 pub use calls::test;
+pub use calls::to_full;
+pub use calls::to_half;
 pub use elimination::Filed;
 pub use elimination::read_off;
 pub use plan::store_size;

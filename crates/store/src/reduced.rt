@@ -1,135 +1,159 @@
-// The test of reduced form in a single reading of the store: the rows one by one in order, row 0 first. A state goes in with each row and
-// comes out, and sees no row again; the answer is what it says after the last row.
+// The test of reduced form in a single reading of the store: the rows one by one in order, row 0 first, each from its diagonal on. A state
+// goes in with each row and comes out, and sees no row again; the answer is what it says after the last row. Of a store in the layout before C-16
+// the same rows are taken, and what lies left of the diagonals is tested by itself.
 ghost use mathlib.Core.Path.{_≡_};
+ghost use mathlib.Core.Bool.{true, cond, not};
 ghost use Prim.Native.Nat.{_+_, _≤_, _<_};
-ghost use lib.ListN.{length};
-ghost use Rattle.lists.specs.Places.{tab};
+ghost use lib.Dec.{eqb};
+ghost use lib.ListN.{length, drop};
+ghost use Rattle.lists.specs.Places.{tab, at};
 ghost use Rattle.field.specs.Residues.{Modulus};
-ghost use Rattle.field.specs.Rows.{allBelow};
-ghost use Rattle.plan.specs.Parts.{storeSize};
+ghost use Rattle.plan.specs.Parts.{storeSize, fullSize};
 ghost use Rattle.store.specs.Elimination.{isReduced, cells};
+ghost use Rattle.store.specs.Moves.{fullCells};
 ghost use Rattle.store.specs.Reading as specs;
 use plan::Plan;
 
-// Whether row q is all zero. Its diagonal is looked at first: a row with a pivot is not read for this.
-fn is_zero(row: &[u8], q: usize) -> bool
-    requires { ⌜ q < length (now row) ⌝ }
-    ensures { λ r. ⌜ r ≡ allBelow 1 (now (row .entry)) ⌝ }
+// One row more; `unread` are the bytes before it that are to be zero and were not looked at yet, those of the rows without a pivot just before it. A
+// row with nothing on its diagonal has no pivot, and is looked at with what follows it: many such rows are one reading. Else `unread` is looked at,
+// and the row's columns are counted. They stand in a lent slice: by value, 1,025 bytes would be copied in and out with each row.
+fn take_row(sound: bool, tops: &mut [u8], unread: &[u8], row: &[u8], p: u8) -> bool
+    requires { ⌜ length (now row) ≡ length (now tops) ⌝ }
+    requires { ⌜ 0 < length (now row) ⌝ }
+    ensures { λ r. ⌜ now (tops .exit) ≡ specs.counted (now (tops .entry)) (now (row .entry)) ⌝ }
+    ensures { λ r. ⌜ r ≡ specs.soundSoFar p sound (at (now (tops .entry)) 0) (now (unread .entry)) (now (row .entry)) ⌝ }
 {
-    if row[q] != 0 {
+    let above = tops[0];
+    if row[0] == 0 {
+        if above < p {
+            return sound;
+        }
         return false;
     }
-    field::all_below(row, 1)
-}
-
-// Whether row q is sound; `zero` says whether it is all zero, `above` is the largest byte above its diagonal.
-fn row_sound(row: &[u8], q: usize, zero: bool, above: u8, p: u8) -> bool
-    requires { ⌜ q < length (now row) ⌝ }
-    requires { ⌜ zero ≡ allBelow 1 (now row) ⌝ }
-    ensures { λ r. ⌜ r ≡ specs.rowSound p q above (now (row .entry)) ⌝ }
-{
-    if zero {
-        return above < p;
+    field::raise(tops, row);
+    if !field::all_below(unread, 1) {
+        return false;
     }
     if above != 0 {
         return false;
     }
-    row[q] == 1
+    if row[0] != 1 {
+        return false;
+    }
+    sound
 }
 
-// Row q counted into the columns, and column q closed. A row that is all zero raises nothing.
-fn count_row(tops: &mut [u8], row: &[u8], q: usize, zero: bool)
-    requires { ⌜ length (now row) ≡ length (now tops) ⌝ }
-    requires { ⌜ q < length (now row) ⌝ }
-    requires { ⌜ zero ≡ allBelow 1 (now row) ⌝ }
-    ensures { λ _. ⌜ now (tops .exit) ≡ specs.counted q (now (tops .entry)) (now (row .entry)) ⌝ }
+// Where the bytes that were not looked at yet begin behind a row: as before, where it has nothing on its diagonal, else at its end.
+fn unread_from(first: u8, unread: usize, end: usize) -> usize
+    ensures { λ r. ⌜ r ≡ cond (eqb first 0) unread end ⌝ }
 {
-    if zero {
-        tops[q] = 0;
-        return;
+    if first == 0 {
+        return unread;
     }
-    field::raise(tops, row);
-    tops[q] = 0;
+    end
 }
 
-// What is known of the rows taken: how many they are, and whether each was sound. The largest byte of each column stands beside it in a
-// lent slice: by value, 1,025 bytes would be copied in and out with each row.
-struct Reading {
-    row: usize,
-    sound: bool,
-}
-
-impl Reading {
-    // The state after one row more.
-    fn take(self, tops: &mut [u8], row: &[u8], p: u8) -> Self
-        requires { ⌜ length (now row) ≡ length (now tops) ⌝ }
-        requires { ⌜ (self .row < length (now row)) × (length (now row) ≤ 1025) ⌝ }
-        ensures { λ r. ⌜ specs.stateOf r (now (tops .exit)) ≡ specs.took p (specs.stateOf self (now (tops .entry))) (now (row .entry)) ⌝ }
-    {
-        let q = self.row;
-        let above = tops[q];
-        let zero = is_zero(row, q);
-        count_row(tops, row, q, zero);
-        if !row_sound(row, q, zero, above, p) {
-            return Reading {
-                row: q + 1,
-                sound: false,
-            };
-        }
-        Reading {
-            row: q + 1,
-            sound: self.sound,
-        }
+// How far behind column 0 of row q that of the next row would stand.
+fn stride(q: usize, c: usize, full: bool) -> usize
+    requires { ⌜ (q < c) × (c ≤ 1024) ⌝ }
+    ensures { λ r. ⌜ r ≡ specs.strideOf full c q ⌝ }
+{
+    if full {
+        return c + 1;
     }
-
-    // After the last row: whether the store is damaged.
-    fn damaged(self, tops: &[u8], c: usize, p: u8) -> bool
-        requires { ⌜ c < length (now tops) ⌝ }
-        ensures { λ r. ⌜ r ≡ specs.isDamaged p c (specs.stateOf self (now (tops .entry))) ⌝ }
-    {
-        if !self.sound {
-            return true;
-        }
-        if p <= tops[c] {
-            return true;
-        }
-        !field::all_below(&tops[..c], 1)
-    }
+    c - q
 }
 
 // The rows one by one in order, from columns that are zero.
-fn take_rows(tops: &mut [u8], store: &[u8], c: usize, p: u8) -> Reading
+fn take_rows(tops: &mut [u8], store: &[u8], c: usize, p: u8, full: bool) -> bool
     requires { ⌜ c ≤ 1024 ⌝ }
-    requires { ⌜ Modulus p ⌝ }
-    requires { ⌜ length (now store) ≡ storeSize c ⌝ }
+    requires { ⌜ length (now store) ≡ specs.sizeOf full c ⌝ }
+    requires { ⌜ (full ≡ true → specs.leftZero c (now store) ≡ true) ⌝ }
     requires { ⌜ now tops ≡ tab (c + 1) (λ _. 0) ⌝ }
-    ensures { λ r. ⌜ specs.stateOf r (now (tops .exit)) ≡ specs.stateAfter p c (now (store .entry)) c ⌝ }
+    ensures { λ r. ⌜ length (now (tops .exit)) ≡ c + 1 ⌝ }
+    ensures { λ r. ⌜ specs.stateOf r (drop c (now (tops .exit))) ≡ specs.stateAfter p c (specs.rowOf full c (now (store .entry))) c ⌝ }
 {
     let width = c + 1;
-    let mut reading = Reading {
-        row: 0,
-        sound: true,
-    };
+    let mut sound = true;
     let mut begin: usize = 0;
-    while reading.row < c {
+    let mut unread: usize = 0;
+    let mut q: usize = 0;
+    while q < c {
+        let a = begin + q;
         let end = begin + width;
-        reading = reading.take(tops, &store[begin..end], p);
-        begin = end;
+        sound = take_row(
+            sound,
+            &mut tops[q..width],
+            &store[unread..a],
+            &store[a..end],
+            p,
+        );
+        unread = unread_from(store[a], unread, end);
+        begin += stride(q, c, full);
+        q += 1;
     }
-    reading
+    if !field::all_below(&store[unread..], 1) {
+        return false;
+    }
+    sound
 }
 
-// Whether the store, C rows of C + 1 bytes, is in reduced form modulo p.
+// Whether the state after the last row says that the store is not damaged.
+fn passes(store: &[u8], c: usize, p: u8, full: bool) -> bool
+    requires { ⌜ c ≤ 1024 ⌝ }
+    requires { ⌜ length (now store) ≡ specs.sizeOf full c ⌝ }
+    requires { ⌜ (full ≡ true → specs.leftZero c (now store) ≡ true) ⌝ }
+    ensures { λ r. ⌜ r ≡ not (specs.isDamaged p (specs.stateAfter p c (specs.rowOf full c (now (store .entry))) c)) ⌝ }
+{
+    // One byte more than columns would do. With eight the array, as compiled, begins at a multiple of 16, and no store of 16 bytes of row 0 crosses
+    // the end of a cache line or a page.
+    let mut tops = [0u8; Plan::COLUMNS + 8];
+    let width = c + 1;
+    if !take_rows(&mut tops[..width], store, c, p, full) {
+        return false;
+    }
+    tops[c] < p
+}
+
+// Whether a store is in reduced form modulo p.
 pub fn is_reduced(store: &[u8], c: usize, p: u8) -> bool
     requires { ⌜ c ≤ 1024 ⌝ }
     requires { ⌜ Modulus p ⌝ }
     requires { ⌜ length (now store) ≡ storeSize c ⌝ }
     ensures { λ r. ⌜ r ≡ isReduced p c (cells c (now (store .entry))) ⌝ }
 {
-    // One byte more than columns would do. With eight the array, as compiled, begins at a multiple of 16, and no store of 16 bytes crosses
-    // the end of a page.
-    let mut tops = [0u8; Plan::COLUMNS + 8];
+    passes(store, c, p, false)
+}
+
+// Whether each row of a store in the layout before is zero left of its diagonal.
+fn left_zero(full: &[u8], c: usize) -> bool
+    requires { ⌜ c ≤ 1024 ⌝ }
+    requires { ⌜ length (now full) ≡ fullSize c ⌝ }
+    ensures { λ r. ⌜ r ≡ specs.leftZero c (now (full .entry)) ⌝ }
+{
     let width = c + 1;
-    let reading = take_rows(&mut tops[..width], store, c, p);
-    !reading.damaged(&tops[..width], c, p)
+    let mut begin: usize = 0;
+    let mut q: usize = 0;
+    while q < c {
+        let a = begin + q;
+        if !field::all_below(&full[begin..a], 1) {
+            return false;
+        }
+        begin += width;
+        q += 1;
+    }
+    true
+}
+
+// Whether a store in the layout before, C rows of C + 1 bytes, is in reduced form modulo p.
+pub fn is_reduced_full(full: &[u8], c: usize, p: u8) -> bool
+    requires { ⌜ c ≤ 1024 ⌝ }
+    requires { ⌜ Modulus p ⌝ }
+    requires { ⌜ length (now full) ≡ fullSize c ⌝ }
+    ensures { λ r. ⌜ r ≡ isReduced p c (fullCells c (now (full .entry))) ⌝ }
+{
+    if !left_zero(full, c) {
+        return false;
+    }
+    passes(full, c, p, true)
 }

@@ -33,14 +33,13 @@ fn next_free(store: &[u8], from: usize, c: usize) -> usize
     requires { ⌜ length (now store) ≡ storeSize c ⌝ }
     ensures { λ r. ⌜ NextFree c (cells c (now (store .entry))) from r ⌝ }
 {
-    let width = c + 1;
-    let mut a = from * width + from;
+    let mut a = from * (2 * c + 1 - from) / 2 + from;
     let mut q = from;
     while q < c {
         if store[a] == 0 {
             return q;
         }
-        a += width + 1;
+        a += c + 1 - q;
         q += 1;
     }
     q
@@ -55,14 +54,13 @@ fn residue(store: &[u8], e: &[u8], q: usize, c: usize, p: u8) -> u8
     requires { ⌜ (q < c → cells c (now store) q q ≡ 0) ⌝ }
     ensures { λ r. ⌜ r ≡ elimination.residual p c (cells c (now (store .entry))) (at (now (e .entry))) q ⌝ }
 {
-    let width = c + 1;
     let mut sum = e[q] as u32;
     let mut a = q;
     let mut i: usize = 0;
     while i < q {
         let f = (p - e[i]) as u32;
         sum += f * (store[a] as u32);
-        a += width;
+        a += c - i;
         i += 1;
     }
     (sum % (p as u32)) as u8

@@ -1,17 +1,16 @@
 -- The entries of a text: the names line that empties the store, and an entry line, from what the code tests and answers.
 --     store-small                        the size of the store
---     cleared                            a store that is all zeros
 --     names-thirteen, names-passed, pair-thirteen, pair-passed       the names lines
 --     entry-thirteen, entry-number, entry-store                      an entry, filed
 --     entries-refuses, entries-reaches   an entry line, at its place in the buffers
 -- Assumes nothing.
 use mathlib.Core.Path.{_≡_, sym, ap, _∙_}
 use mathlib.Core.Bool.{true, false}
-use mathlib.Core.List.{List, _++_, append-nil}
+use mathlib.Core.List.{List, _++_}
 use Prim.Native.Nat.{ℕ, _+_, _*_, _≤_}
-use native.Mathlib.Nat.{mul-le-mul, le-antisymm}
+use native.Mathlib.Nat.{mul-le-mul}
 use native.Mathlib.Omega.{arith}
-use lib.ListN.{length, take, drop, replicate, length-replicate, drop-of-length-le}
+use lib.ListN.{length, take, drop, replicate, length-replicate}
 use lib.Seq.{take-at, length-take-le}
 use Rattle.lists.specs.Places.{at, same}
 use Rattle.plan.specs.Causes.{first, result, numberOf, answer}
@@ -24,20 +23,13 @@ use Rattle.lines.specs.Lines.{asks, numbers}
 use Rattle.text.specs.Meaning.{names, header, entryNames, entries, next, cause, unless, planNames, pairNames, entryCauses, entered, judged}
 use Rattle.text.proofs.Judging.{refuses, reaches}
 
-pub store-small : (C n size : ℕ) → n ≡ C → C ≤ 255 → size ≡ storeSize n → (size ≡ storeSize C) × (size ≤ 65280)
+pub store-small : (C n size : ℕ) → n ≡ C → C ≤ 360 → size ≡ storeSize n → (size ≡ storeSize C) × (size ≤ 65340)
 unfolding storeSize
 store-small C n size e h s =
-    let low : n ≤ 255 = omega arith in
-    let high : n + 1 ≤ 256 = omega arith in
-    let small : n * (n + 1) ≤ 255 * 256 = mul-le-mul low high in
+    let low : n ≤ 360 = omega arith in
+    let high : n + 1 ≤ 361 = omega arith in
+    let small : n * (n + 1) ≤ 360 * 361 = mul-le-mul low high in
     (s ∙ ap storeSize e, omega (arith, s, small))
-
-pub cleared : (i : ℕ) (e xs : List ℕ) → xs ≡ replicate i 0 ++ drop i e → i ≤ length e → length e ≤ i → xs ≡ replicate (length e) 0
-cleared i e xs h low high =
-    h
-    ∙ ap (λ (l : List ℕ). replicate i 0 ++ l) (drop-of-length-le e high)
-    ∙ append-nil (replicate i 0)
-    ∙ ap (λ (n : ℕ). replicate n 0) (le-antisymm low high)
 
 pub names-thirteen : (line : List ℕ) → same line planNames ≡ false → cause 13 ≡ judged names line
 unfolding judged

@@ -8,7 +8,7 @@ use Rattle.field.specs.Residues.{inverse}
 use Rattle.plan.specs.Numbers.{product, badRadix, radicesFit, outOfRange}
 use Rattle.plan.specs.Parts.{lengthsFit, valuesFit, storeSize, callCauses}
 use Rattle.plan.specs.Rows.{digit, link, chain, values, weighted, rowPlace, row}
-use Rattle.store.specs.Elimination.{isZeroRow, isPivot, isReduced, residual, lead, normal, inserted, outcome, after, rowStart, flat}
+use Rattle.store.specs.Elimination.{isZeroRow, isPivot, isReduced, residual, lead, normal, inserted, outcome, after, rowStart, cells, flat}
 use Rattle.store.specs.Calls.{filed, coefficients}
 use Rattle.program.specs.Layout.{adds, linkSteps, productSteps, layout, stepCount}
 use Rattle.listing.specs.Norm.{short, squares, worst}
@@ -37,10 +37,14 @@ pub record Meanings : Type 0 where
   pub leading-zero : meaning (bytes "p s n links products\n03 2 2 0 1\n") ≡ bytes "refusal line\n13 2\n"
   -- s above p
   pub bound-above : meaning (bytes "p s n links products\n3 4 2 0 1\n") ≡ bytes "refusal line\n2 2\n"
-  -- C = 256
-  pub columns-above : meaning (bytes "p s n links products\n3 2 1 63 3\n") ≡ bytes "refusal line\n14 2\n"
-  -- C = 256 and a bad radix behind it: "In text the values line is tested whole before the radices line is read"
-  pub columns-first : meaning (bytes "p s n links products\n3 2 1 63 3\n1\n") ≡ bytes "refusal line\n14 2\n"
+  -- C = 361
+  pub columns-above : meaning (bytes "p s n links products\n3 2 1 18 18\n") ≡ bytes "refusal line\n14 2\n"
+  -- C = 361 and a bad radix behind it: "In text the values line is tested whole before the radices line is read"
+  pub columns-first : meaning (bytes "p s n links products\n3 2 1 18 18\n1\n") ≡ bytes "refusal line\n14 2\n"
+  -- C = 360 passes the values line, and the radices line is missing
+  pub columns-most : meaning (bytes "p s n links products\n3 2 1 17 19\n") ≡ bytes "refusal line\n13 3\n"
+  -- so does C = 256, which an eight-bit table can need
+  pub columns-eight-bits : meaning (bytes "p s n links products\n3 2 1 63 3\n") ≡ bytes "refusal line\n13 3\n"
   -- 64 digits pass the values line, and the radices line is missing
   pub radices-missing : meaning (bytes "p s n links products\n3 2 64 0 0\n") ≡ bytes "refusal line\n13 3\n"
   -- a radix too many, and a bad one: 13 comes first
@@ -76,7 +80,7 @@ pub record Meanings : Type 0 where
   pub blank-line : meaning (bytes "p s n links products\n3 2 2 0 1\n2 2\n1 1\nentry value\n\n") ≡ bytes "refusal line\n13 6\n"
 
 pub meanings : Meanings
-unfolding sum tab every joined isPrime oddPrime inverse product badRadix radicesFit outOfRange lengthsFit valuesFit storeSize callCauses digit link chain values weighted rowPlace row isZeroRow isPivot isReduced residual lead normal inserted outcome after rowStart flat filed coefficients adds linkSteps productSteps layout stepCount largest short squares worst digitsOf decimal spaced line listing refused cutAt allDigits isNumeral numberFrom allNumerals asks numbers same judged ended from meaning
+unfolding sum tab every joined isPrime oddPrime inverse product badRadix radicesFit outOfRange lengthsFit valuesFit storeSize callCauses digit link chain values weighted rowPlace row isZeroRow isPivot isReduced residual lead normal inserted outcome after rowStart cells flat filed coefficients adds linkSteps productSteps layout stepCount largest short squares worst digitsOf decimal spaced line listing refused cutAt allDigits isNumeral numberFrom allNumerals asks numbers same judged ended from meaning
 meanings =
     record {
       xor = refl;
@@ -90,6 +94,8 @@ meanings =
       bound-above = refl;
       columns-above = refl;
       columns-first = refl;
+      columns-most = refl;
+      columns-eight-bits = refl;
       radices-missing = refl;
       radix-more = refl;
       radix-below = refl;

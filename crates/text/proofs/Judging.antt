@@ -65,7 +65,7 @@ header-judged line e = rw e
 
 module _ (p s n m t : ℕ) where
   wide : List (ℕ × Bool)
-  wide = (14, ltb 255 (columns (plan p s n m t))) ∷ []
+  wide = (14, ltb 360 (columns (plan p s n m t))) ∷ []
 
   outcome-refused : (k : ℕ) → checked p s n m t [] ≡ answerOf (Refused k) → cause k ≡ outcome (plan p s n m t)
   unfolding outcome wide
@@ -82,17 +82,17 @@ module _ (p s n m t : ℕ) where
     same-columns : columns Q ≡ columns (plan p s n m t)
     same-columns = ap columns (sym (accepted-plan p s n m t [] e .1))
 
-    outcome-wide : 255 < columns Q → cause 14 ≡ outcome (plan p s n m t)
+    outcome-wide : 360 < columns Q → cause 14 ≡ outcome (plan p s n m t)
     unfolding outcome wide
     outcome-wide h =
-        let met : first (headerCauses (plan p s n m t)) ≡ 14 = passed ∙ rw (lt-ltb 255 (columns (plan p s n m t)) (rw same-columns at h)) in
+        let met : first (headerCauses (plan p s n m t)) ≡ 14 = passed ∙ rw (lt-ltb 360 (columns (plan p s n m t)) (rw same-columns at h)) in
         refuses 14 (radices (plan p s n m t)) (λ z. omega arith)
         ∙ ap (λ (j : ℕ). unless j (radices (plan p s n m t))) (sym met)
 
-    outcome-passed : columns Q ≤ 255 → next (radices Q) ≡ outcome (plan p s n m t)
+    outcome-passed : columns Q ≤ 360 → next (radices Q) ≡ outcome (plan p s n m t)
     unfolding outcome wide
     outcome-passed h =
-        let met : first (headerCauses (plan p s n m t)) ≡ 0 = passed ∙ rw (le-ltb 255 (columns (plan p s n m t)) (rw same-columns at h)) in
+        let met : first (headerCauses (plan p s n m t)) ≡ 0 = passed ∙ rw (le-ltb 360 (columns (plan p s n m t)) (rw same-columns at h)) in
         ap (λ (P : Plan). next (radices P)) (sym (accepted-plan p s n m t [] e .1))
         ∙ reaches (first (headerCauses (plan p s n m t))) (radices (plan p s n m t)) met
 
@@ -104,10 +104,10 @@ module _ (line ns : List ℕ) (e : ns ≡ numbers line) (asks5 : asks 5 5 line �
   header-refused k h = outcome-refused (at ns 0) (at ns 1) (at ns 2) (at ns 3) (at ns 4) k h ∙ is-outcome
 
   module _ (Q : Plan) (h : checked (at ns 0) (at ns 1) (at ns 2) (at ns 3) (at ns 4) [] ≡ answerOf (Accepted Q)) where
-    pub header-wide : 255 < columns Q → cause 14 ≡ judged header line
+    pub header-wide : 360 < columns Q → cause 14 ≡ judged header line
     header-wide l = outcome-wide (at ns 0) (at ns 1) (at ns 2) (at ns 3) (at ns 4) Q h l ∙ is-outcome
 
-    pub header-passed : columns Q ≤ 255 → next (radices Q) ≡ judged header line
+    pub header-passed : columns Q ≤ 360 → next (radices Q) ≡ judged header line
     header-passed l = outcome-passed (at ns 0) (at ns 1) (at ns 2) (at ns 3) (at ns 4) Q h l ∙ is-outcome
 
 -- the radices line: r is its refusal

@@ -140,11 +140,11 @@ no-parts P R h rs =
       products-below = refl;
     }
 
--- the values line: its plan is within its limits, and C at most 255
+-- the values line: its plan is within its limits, and C at most 360
 planned-of : (P : Plan) → first (headerCauses P) ≡ 0 → Planned P
 planned-of P e =
-    let h = first-none (numberCauses (P .p) (P .s) (P .n) (P .m) (P .t) []) ((14, ltb 255 (columns P)) ∷ []) (omega arith) e in
-    (within-of (P .p) (P .s) (P .n) (P .m) (P .t) [] (h .0), ltb-false 255 (columns P) (passed 14 (ltb 255 (columns P)) 0 (omega arith) (h .1) .0))
+    let h = first-none (numberCauses (P .p) (P .s) (P .n) (P .m) (P .t) []) ((14, ltb 360 (columns P)) ∷ []) (omega arith) e in
+    (within-of (P .p) (P .s) (P .n) (P .m) (P .t) [] (h .0), ltb-false 360 (columns P) (passed 14 (ltb 360 (columns P)) 0 (omega arith) (h .1) .0))
 
 -- the radices line: n radices, each 2 to p, with a product within the limit
 radices-line : (P : Plan) (line : List ℕ) → first (radicesCauses (P .n) (P .p) line) ≡ 0 → Radices P (numbers line)

@@ -75,9 +75,10 @@ abbrev pub unless : ℕ → Place → Judged
 unless zero place = next place
 unless (suc k) place = cause (suc k)
 
--- "In text the values line is tested whole before the radices line is read": causes 1 to 3 without radices, then "C above 255 in the filing program"
+-- "In text the values line is tested whole before the radices line is read": causes 1 to 3 without radices, then 14, for
+-- which 02, C-16, says: "The filing program then takes C up to 360 (65,340 bytes), and cause 14 changes to that"
 abbrev pub headerCauses : Plan → List (ℕ × Bool)
-headerCauses P = numberCauses (P .p) (P .s) (P .n) (P .m) (P .t) [] ++ ((14, ltb 255 (columns P)) ∷ [])
+headerCauses P = numberCauses (P .p) (P .s) (P .n) (P .m) (P .t) [] ++ ((14, ltb 360 (columns P)) ∷ [])
 
 abbrev pub headerPlan : List ℕ → Plan
 headerPlan ns = plan (at ns 0) (at ns 1) (at ns 2) (at ns 3) (at ns 4)

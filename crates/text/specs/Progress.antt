@@ -1,7 +1,7 @@
 -- Serves 01, "The filing program": what the code has read so far, as a place of the definition. The contracts of the functions that read a
 -- text cite it. The code keeps the stage of the text by value, with how much of each lent buffer is filled; the buffers stand beside it.
 --     judgedOf stage R w T d S    the place, or the cause at which it stopped, over the buffers' bytes
---     Planned P                   a plan within its limits, with C at most 255
+--     Planned P                   a plan within its limits, with C at most 360
 --     Fits stage                  the stage is within its buffers: what is filled leaves room for the lines to come
 --     rejudged o line             the judgement of a line after the judgement o of those before it
 --     stated j held o             the definition's state after the judgement o: line j with the bytes held of it, or stopped there
@@ -32,9 +32,9 @@ judgedOf (Entries P a b c) R w T d S =
     next (entries (lend P (take (P .n) R) (take a w) (take b T) (take c d)) (take (storeSize (columns P)) S))
 judgedOf (Stopped k) R w T d S = cause k
 
--- the plan of a text: within its limits, and C at most 255
+-- the plan of a text: within its limits, and C at most 360
 abbrev pub Planned : Plan → Type 0
-Planned P = Within P × (columns P ≤ 255)
+Planned P = Within P × (columns P ≤ 360)
 
 abbrev pub Fits : Stage → Type 0
 Fits Names = Unit {0}

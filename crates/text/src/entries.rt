@@ -2,7 +2,7 @@
 ghost use mathlib.Core.Path.{_≡_};
 ghost use mathlib.Core.List.{List};
 ghost use Prim.Native.Nat.{ℕ, _≤_};
-ghost use lib.ListN.{length, take, replicate};
+ghost use lib.ListN.{length, take};
 ghost use Rattle.plan.specs.Numbers.{columns};
 ghost use Rattle.plan.specs.Parts.{lend, storeSize};
 ghost use Rattle.text.specs.Meaning as meaning;
@@ -15,17 +15,6 @@ use lines::same;
 use plan::Plan;
 use store::Filed;
 
-// All zeros.
-fn clear(store: &mut [u8])
-    ensures { λ _. ⌜ now (store .exit) ≡ replicate (length (now (store .entry))) 0 ⌝ }
-{
-    let mut i: usize = 0;
-    while i < store.len() {
-        store[i] = 0;
-        i += 1;
-    }
-}
-
 // The names line of the entries, behind which the store is empty.
 pub fn pair_line(plan: Plan, a: usize, b: usize, c: usize, line: &[u8], store: &mut [u8]) -> Stage
     requires { ⌜ Fits (Stage.EntryNames plan a b c) ⌝ }
@@ -37,7 +26,7 @@ pub fn pair_line(plan: Plan, a: usize, b: usize, c: usize, line: &[u8], store: &
         return Stage::Stopped(13);
     }
     let size = store::store_size(plan.columns());
-    clear(&mut store[..size]);
+    field::clear(&mut store[..size]);
     Stage::Entries(plan, a, b, c)
 }
 

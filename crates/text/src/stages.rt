@@ -79,7 +79,7 @@ pub fn header_line(line: &[u8]) -> Stage
     match Plan::new(v[0], v[1], v[2], v[3], v[4], b"") {
         Checked::Refused(k) => Stage::Stopped(k),
         Checked::Accepted(plan) => {
-            if 255 < plan.columns() {
+            if 360 < plan.columns() {
                 return Stage::Stopped(14);
             }
             Stage::Radices(plan)

@@ -32,7 +32,7 @@ use std::process::exit;
 
 const USAGE: &str = "find_plan [-r radix,radix,..] p s n m t seed [value ...]";
 /// The most columns of a plan text.
-const COLUMNS: usize = 255;
+const COLUMNS: usize = 360;
 
 /// Draws from a generator.
 struct Random(SplitMix);
@@ -157,7 +157,7 @@ fn check(shape: Shape, radices: &[u8], values: &[usize]) {
         give_up("there are not n radices");
     }
     if (t + 1) * (n + m) > COLUMNS {
-        give_up("the shape has more than 255 columns");
+        give_up(&format!("the shape has more than {COLUMNS} columns"));
     }
     let entries: usize = radices.iter().map(|&radix| usize::from(radix)).product();
     if values.len() != entries {

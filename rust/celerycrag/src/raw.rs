@@ -123,6 +123,33 @@ pub fn settle(plan: Lent, store: &[u8], entry: usize, residue: &mut u8, column: 
     )
 }
 
+/// Moves a store from the full layout, C rows of C + 1 bytes, to the one that all
+/// other calls take. A store that is not in reduced form is refused, and then
+/// `half` is left as it was. Causes 1 2 3 4 5 6.
+pub fn to_half(plan: Lent, full: &[u8], half: &mut [u8]) -> u8 {
+    call!(
+        celery_to_half,
+        plan,
+        full.as_ptr(),
+        full.len(),
+        half.as_mut_ptr(),
+        half.len()
+    )
+}
+
+/// Moves a store back to the full layout. A store that is not in reduced form is
+/// refused, and then `full` is left as it was. Causes 1 2 3 4 5 6.
+pub fn to_full(plan: Lent, half: &[u8], full: &mut [u8]) -> u8 {
+    call!(
+        celery_to_full,
+        plan,
+        half.as_ptr(),
+        half.len(),
+        full.as_mut_ptr(),
+        full.len()
+    )
+}
+
 /// Answers what [`write()`] answers on the same arguments, and writes nothing.
 /// Causes 1 2 3 4 5 10.
 pub fn check_writing(plan: Lent, beta: &[u8], steps: &[u16]) -> u8 {

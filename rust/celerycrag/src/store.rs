@@ -40,27 +40,62 @@ pub enum Settled {
     },
 }
 
-/// The store of a plan: C rows of C coefficients and a right-hand side.
+/// The store of a plan: C rows of C coefficients and a right-hand side, of which
+/// row q is zero left of column q.
+///
+/// Its bytes are, row after row, the columns q to C - 1 of row q and then its
+/// right-hand side: C (C + 1) / 2 + C bytes. Row q begins at byte
+/// q (C + 1) - q (q - 1) / 2.
+///
+/// # Stores on disk
+///
+/// Stores were once kept in the *full* layout, C rows of C + 1 bytes with the
+/// zeros. [`Store::from_full_bytes`] takes them over, and
+/// [`Store::to_full_bytes`] gives them for a reader of that layout; nothing is
+/// lost either way. [`Store::from_bytes`] refuses them for their length, but for
+/// C = 1, where the two layouts are the same.
+///
+/// ```
+/// use celerycrag::{Plan, Refusal, Shape, Store};
+///
+/// # fn main() -> Result<(), Refusal> {
+/// let shape = Shape { p: 3, s: 2, n: 2, m: 0, t: 1 };
+/// let plan = Plan::new(shape, vec![2, 2], vec![], vec![], vec![1, 1])?;
+/// let kept = [1, 0, 0, 2, 0,  0, 1, 0, 1, 1,  0, 0, 1, 1, 1,  0, 0, 0, 0, 0];
+/// assert_eq!(Store::from_bytes(&plan, kept.to_vec()), Err(Refusal::LENGTH));
+///
+/// let store = Store::from_full_bytes(&plan, &kept)?;
+/// assert_eq!(store.as_bytes(), [1, 0, 0, 2, 0,  1, 0, 1, 1,  1, 1, 1,  0, 0]);
+/// assert_eq!(store.coefficients()?, [0, 1, 1, 0]);
+/// assert_eq!(store.to_full_bytes()?, kept);
+/// # Ok(())
+/// # }
+/// ```
 #[derive(Clone, Debug, PartialEq, Eq, Hash)]
 pub struct Store {
     plan: Plan,
     bytes: Vec<u8>,
 }
 
+/// How many bytes the store of a plan has.
+fn length(plan: &Plan) -> usize {
+    let columns = plan.columns();
+    columns * (columns + 1) / 2 + columns
+}
+
 impl Store {
     /// The empty store, all zeros.
     pub fn new(plan: &Plan) -> Store {
-        let columns = plan.columns();
         Store {
             plan: plan.clone(),
-            bytes: vec![0; columns * (columns + 1)],
+            bytes: vec![0; length(plan)],
         }
     }
 
     /// A store from bytes kept elsewhere, which are tested.
     ///
     /// # Errors
-    /// Cause 4 where there are not C rows of C + 1 bytes, 6 where they are not
+    /// Cause 4 where there are not C (C + 1) / 2 + C bytes, 6 where they are not
     /// in reduced form.
     pub fn from_bytes(plan: &Plan, bytes: Vec<u8>) -> Result<Store, Refusal> {
         Refusal::unless_0(raw::test(plan.lent(), &bytes))?;
@@ -70,12 +105,41 @@ impl Store {
         })
     }
 
+    /// A store from bytes that were kept in the full layout, C rows of C + 1
+    /// bytes, which are tested.
+    ///
+    /// # Errors
+    /// Cause 4 where there are not C (C + 1) bytes, 6 where they are not in
+    /// reduced form, which includes anything but zeros left of column q in a
+    /// row q.
+    pub fn from_full_bytes(plan: &Plan, bytes: &[u8]) -> Result<Store, Refusal> {
+        let mut half = vec![0; length(plan)];
+        Refusal::unless_0(raw::to_half(plan.lent(), bytes, &mut half))?;
+        Ok(Store {
+            plan: plan.clone(),
+            bytes: half,
+        })
+    }
+
+    /// The bytes in the full layout, C rows of C + 1 bytes.
+    ///
+    /// # Errors
+    /// None while the bytes are those of a store made here: the library tests
+    /// them again, and only memory that was damaged meanwhile is refused (6).
+    pub fn to_full_bytes(&self) -> Result<Vec<u8>, Refusal> {
+        let columns = self.plan.columns();
+        let mut full = vec![0; columns * (columns + 1)];
+        Refusal::unless_0(raw::to_full(self.plan.lent(), &self.bytes, &mut full))?;
+        Ok(full)
+    }
+
     /// The plan that the store belongs to.
     pub fn plan(&self) -> &Plan {
         &self.plan
     }
 
-    /// The bytes, row after row.
+    /// The bytes, row after row: of row q the columns q to C - 1 and the
+    /// right-hand side.
     pub fn as_bytes(&self) -> &[u8] {
         &self.bytes
     }

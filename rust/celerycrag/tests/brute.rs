@@ -37,11 +37,10 @@ fn row(plan: &Owned, entry: usize) -> Vec<u8> {
     row
 }
 
-/// Whether β satisfies every row of the store.
-fn satisfies(plan: &Owned, store: &[u8], beta: &[u8]) -> bool {
+/// Whether β satisfies every row of a store.
+fn satisfies(plan: &Owned, rows: &[Vec<u8>], beta: &[u8]) -> bool {
     let columns = plan.columns();
-    store
-        .chunks(columns + 1)
+    rows.iter()
         .all(|row| plan.product(&row[..columns], beta) == row[columns])
 }
 
@@ -90,7 +89,7 @@ fn check_settled(plan: &Owned, store: &[u8], fitting: &[&Vec<u8>], rows: &[Vec<u
 /// settled before and after, and the program at the end against the β that
 /// still fit.
 fn check_list(plan: &Owned, list: &[(usize, usize)]) {
-    let (columns, width) = (plan.columns(), plan.columns() + 1);
+    let columns = plan.columns();
     let rows: Vec<Vec<u8>> = (0..plan.entries()).map(|entry| row(plan, entry)).collect();
     let all = every_beta(plan);
     let mut fitting: Vec<&Vec<u8>> = all.iter().collect();
@@ -118,14 +117,15 @@ fn check_list(plan: &Owned, list: &[(usize, usize)]) {
             if column == columns {
                 assert_eq!(store, before);
             } else {
-                assert!(before[column * width..][..width].iter().all(|&x| x == 0));
-                assert_eq!(store[column * width + column], 1);
+                assert!(plan.rows(&before)[column].iter().all(|&x| x == 0));
+                assert_eq!(plan.rows(&store)[column][column], 1);
             }
             kept.push((entry, value));
             fitting = both;
         }
         assert_eq!(raw::test(plan.lent(), &store), 0);
-        let satisfying = all.iter().filter(|beta| satisfies(plan, &store, beta));
+        let stored = plan.rows(&store);
+        let satisfying = all.iter().filter(|beta| satisfies(plan, &stored, beta));
         assert!(satisfying.eq(fitting.iter().copied()));
     }
 
@@ -320,11 +320,12 @@ fn every_store_of_two_columns() {
     let rows: Vec<Vec<u8>> = (0..9).map(|entry| row(&plan, entry)).collect();
     let all = every_beta(&plan);
     let mut sets = Vec::new();
-    for number in 0..4usize.pow(6) {
-        let store: Vec<u8> = (0..6).map(|j| (number >> (2 * j) & 3) as u8).collect();
+    for number in 0..4usize.pow(5) {
+        let store: Vec<u8> = (0..5).map(|j| (number >> (2 * j) & 3) as u8).collect();
         match raw::test(plan.lent(), &store) {
             0 => {
-                let fits = |beta: &Vec<u8>| satisfies(&plan, &store, beta);
+                let stored = plan.rows(&store);
+                let fits = |beta: &Vec<u8>| satisfies(&plan, &stored, beta);
                 sets.push(all.iter().map(fits).collect::<Vec<bool>>());
                 let fitting: Vec<&Vec<u8>> = all.iter().filter(|beta| fits(beta)).collect();
                 check_settled(&plan, &store, &fitting, &rows);
@@ -337,4 +338,39 @@ fn every_store_of_two_columns() {
     sets.sort();
     sets.dedup();
     assert_eq!(sets.len(), 9 + 12 + 1);
+}
+
+/// Tries every full store of two columns and bytes 0 to 3 under p = 3: those that
+/// move are as many, have the same solutions as the stores that they become, and
+/// come back as they were. All others are refused with 6, and the target is left.
+#[test]
+fn every_full_store_of_two_columns() {
+    let plan = Owned::zeros([3, 3, 2, 0, 0]);
+    let all = every_beta(&plan);
+    let mut moved = Vec::new();
+    for number in 0..4usize.pow(6) {
+        let full: Vec<u8> = (0..6).map(|j| (number >> (2 * j) & 3) as u8).collect();
+        let (mut half, mut back) = ([9; 5], [9; 6]);
+        match raw::to_half(plan.lent(), &full, &mut half) {
+            0 => {
+                assert_eq!(raw::test(plan.lent(), &half), 0);
+                assert_eq!(raw::to_full(plan.lent(), &half, &mut back), 0);
+                assert_eq!(back[..], full);
+                let solves = |beta: &Vec<u8>| {
+                    let solved = |row: &[u8]| plan.product(&row[..2], beta) == row[2];
+                    full.chunks(3).all(solved)
+                };
+                let stored = plan.rows(&half);
+                for beta in &all {
+                    assert_eq!(solves(beta), satisfies(&plan, &stored, beta));
+                }
+                moved.push(half);
+            }
+            answer => assert_eq!((answer, half), (6, [9; 5])),
+        }
+    }
+    assert_eq!(moved.len(), 9 + 12 + 1);
+    moved.sort();
+    moved.dedup();
+    assert_eq!(moved.len(), 9 + 12 + 1);
 }

@@ -1,14 +1,17 @@
-//! The store test where one byte of a store in reduced form is changed. What it
-//! has to answer is known from the place of the byte, and compared with the
-//! reference.
+//! The verdict on a store in reduced form of which one byte is changed: that of
+//! the store test and of the move to the full layout, and for a store in the full
+//! layout that of the move from it. What it has to be is known from the place of
+//! the byte, and compared with the reference.
 //!
 //! The test takes the rows one by one, row 0 first, and has no answer before the
 //! last. So the fault is in every byte of small stores, and in wide ones in row
-//! 0, in the last row and between.
+//! 0, in the last row and between. Left of the diagonal, where only the full
+//! layout has bytes, every one but 0 is a fault.
 
 mod common;
+use common::layout::{Layout, LAYOUTS};
 use common::random::Random;
-use common::stores::{ways, Sound};
+use common::stores::{ways, Sound, VERDICTS};
 use common::tally::Tally;
 use std::cmp::Ordering;
 
@@ -37,29 +40,24 @@ fn stays_sound(sound: &Sound, row: usize, column: usize, byte: u8) -> bool {
 /// so many times.
 fn every_byte(sound: &mut Sound, values: &[u8], once_in: usize, tally: &mut Tally) {
     let mut asked = 0;
-    for row in 0..sound.columns() {
-        for column in 0..=sound.columns() {
-            for &byte in values {
-                let same = byte == sound.at(row, column);
-                let answer = match same || stays_sound(sound, row, column, byte) {
-                    true => 0,
-                    false => 6,
-                };
-                let change = [(row, column, byte)];
-                if asked % once_in == 0 {
-                    sound.expect(answer, &change, tally);
-                } else {
-                    let given = sound.test_library(&change, tally);
-                    assert_eq!(given, answer, "p = {}, {change:?}", sound.plan.p);
-                }
-                asked += 1;
+    for (row, column) in sound.layout.places(sound.columns()) {
+        for &byte in values {
+            let same = byte == sound.at(row, column);
+            let answer = match same || stays_sound(sound, row, column, byte) {
+                true => 0,
+                false => 6,
+            };
+            let change = [(row, column, byte)];
+            if asked % once_in == 0 {
+                sound.expect(answer, &change, tally);
+            } else {
+                let given = sound.test_library(&change, tally);
+                assert_eq!(given, answer, "p = {}, {change:?}", sound.plan.p);
             }
+            asked += 1;
         }
     }
 }
-
-/// Both verdicts of the store test.
-const VERDICTS: [(&str, &[u8]); 1] = [("test", &[6])];
 
 #[test]
 fn every_byte_with_every_value() {
@@ -72,10 +70,16 @@ fn every_byte_with_every_value() {
                 ..16 => &PRIMES[..],
                 _ => &PRIMES[number % 3..][..1],
             };
-            let once_in = if columns < 31 { 1 } else { 17 };
+            let once_in = match columns {
+                ..8 => 1,
+                8..16 => 5,
+                _ => 61,
+            };
             for &p in primes {
-                let mut sound = Sound::new(&mut random, p, led.clone());
-                every_byte(&mut sound, &values, once_in, &mut tally);
+                for layout in LAYOUTS {
+                    let mut sound = Sound::new(&mut random, layout, p, led.clone());
+                    every_byte(&mut sound, &values, once_in, &mut tally);
+                }
             }
         }
     }
@@ -91,8 +95,12 @@ fn every_byte_of_wide_stores() {
             let near_p = [p - 2, p - 1, p, p + 1].map(|byte| byte as u8);
             let others = [0, 1, 2, 4, 31, 32, 64, 127, 128, 129, 254, 255];
             let values = [&near_p[..], &others].concat();
-            let mut sound = Sound::new(&mut random, p, led);
-            every_byte(&mut sound, &values, 41, &mut tally);
+            // The full layout has twice the bytes: every other way is enough.
+            let layouts = if number % 2 == 0 { 2 } else { 1 };
+            for &layout in &LAYOUTS[..layouts] {
+                let mut sound = Sound::new(&mut random, layout, p, led.clone());
+                every_byte(&mut sound, &values, 83, &mut tally);
+            }
         }
     }
     tally.complete(&VERDICTS, 0);
@@ -118,6 +126,8 @@ fn changes(sound: &Sound, row: usize) -> Vec<Named> {
     let (columns, p) = (sound.columns(), sound.plan.p as u8);
     let led = |column: &usize| sound.led[*column];
     let open = |column: &usize| !sound.led[*column];
+    // What the row keeps left of its diagonal.
+    let left = || sound.layout.first(row)..row;
     let mut all = Vec::new();
     let mut add = |name, columns: &[usize], bytes: &[u8], answer| {
         for &column in columns {
@@ -128,8 +138,8 @@ fn changes(sound: &Sound, row: usize) -> Vec<Named> {
         add("a lead of 2", &[row], &[2], 6);
         add("a right-hand side of p - 1", &[columns], &[p - 1], 0);
         add("a right-hand side of p", &[columns], &[p, 255], 6);
-        add("below a pivot", &some((0..row).filter(led)), &[1, p], 6);
-        add("below no pivot", &some((0..row).filter(open)), &[1, p], 6);
+        add("below a pivot", &some(left().filter(led)), &[1, p], 6);
+        add("below no pivot", &some(left().filter(open)), &[1, p], 6);
         let (led, open) = (
             some((row + 1..columns).filter(led)),
             some((row + 1..columns).filter(open)),
@@ -140,7 +150,7 @@ fn changes(sound: &Sound, row: usize) -> Vec<Named> {
     } else {
         add("zero but for a 2 on the diagonal", &[row], &[2], 6);
         add("zero but for the right-hand side", &[columns], &[1, p], 6);
-        add("zero but for a byte left", &some(0..row), &[1, p - 1], 6);
+        add("zero but for a byte left", &some(left()), &[1, p - 1], 6);
         let right = some(row + 1..columns);
         add("zero but for a byte right", &right, &[1, p - 1], 6);
     }
@@ -162,7 +172,7 @@ const RIGHT: [&str; 4] = [
     "a coefficient of p",
     "zero but for a byte right",
 ];
-/// What a row can have that is not row 0.
+/// What a row of the full layout can have that is not row 0.
 const LEFT: [&str; 3] = [
     "below a pivot",
     "below no pivot",
@@ -171,14 +181,14 @@ const LEFT: [&str; 3] = [
 
 /// Changes a byte in one of these rows, all others being sound, in stores of so
 /// many columns. Each change of these names has to be among them.
-fn one_row(columns: usize, rows: &[usize], names: &[&[&'static str]]) {
+fn one_row(layout: Layout, columns: usize, rows: &[usize], names: &[&[&'static str]]) {
     let (mut random, mut tally) = (Random::new(8, 0), Tally::default());
     // The reference is slow on the largest: there no row is led, two of three
     // are, and the last alone.
     let one_in = if columns < 1_024 { 1 } else { 4 };
     for led in ways(columns).into_iter().step_by(one_in) {
         for p in PRIMES {
-            let mut sound = Sound::new(&mut random, p, led.clone());
+            let mut sound = Sound::new(&mut random, layout, p, led.clone());
             sound.expect(0, &[], &mut tally);
             for &row in rows {
                 for (name, column, byte, answer) in changes(&sound, row) {
@@ -191,30 +201,45 @@ fn one_row(columns: usize, rows: &[usize], names: &[&[&'static str]]) {
     for name in names.concat() {
         let answer = if name.ends_with("p - 1") { 0 } else { 6 };
         let count = tally.count(name, answer);
-        println!("C = {columns}, {name}: {count}");
-        assert!(count > 0, "C = {columns}, never {name}");
+        println!("C = {columns}, {layout:?}, {name}: {count}");
+        assert!(count > 0, "C = {columns}, {layout:?}, never {name}");
+    }
+}
+
+/// LEFT, where the layout has bytes left of the diagonal.
+fn left(layout: Layout) -> &'static [&'static str] {
+    match layout {
+        Layout::Half => &[],
+        Layout::Full => &LEFT,
     }
 }
 
 #[test]
 fn row_0_alone() {
-    one_row(1, &[0], &[&ANYWHERE]);
-    for columns in [2, 33, 64, 256, 1_024] {
-        one_row(columns, &[0], &[&ANYWHERE, &RIGHT]);
+    for layout in LAYOUTS {
+        one_row(layout, 1, &[0], &[&ANYWHERE]);
+        for columns in [2, 33, 64, 256, 1_024] {
+            one_row(layout, columns, &[0], &[&ANYWHERE, &RIGHT]);
+        }
     }
 }
 
 #[test]
 fn the_last_row_alone() {
-    for columns in [2, 33, 64, 256, 1_024] {
-        one_row(columns, &[columns - 1], &[&ANYWHERE, &LEFT]);
+    for layout in LAYOUTS {
+        for columns in [2, 33, 64, 256, 1_024] {
+            let rows = [columns - 1];
+            one_row(layout, columns, &rows, &[&ANYWHERE, left(layout)]);
+        }
     }
 }
 
 #[test]
 fn a_row_between_alone() {
-    for columns in [33, 64, 256, 1_024] {
-        let rows = [1, columns / 2, columns - 2];
-        one_row(columns, &rows, &[&ANYWHERE, &RIGHT, &LEFT]);
+    for layout in LAYOUTS {
+        for columns in [33, 64, 256, 1_024] {
+            let rows = [1, columns / 2, columns - 2];
+            one_row(layout, columns, &rows, &[&ANYWHERE, &RIGHT, left(layout)]);
+        }
     }
 }

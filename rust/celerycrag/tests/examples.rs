@@ -75,5 +75,5 @@ fn every_example_gives_its_listing() {
         assert_eq!(listing(&text), out, "{}", path.display());
         checked += 1;
     }
-    assert!(checked >= 14, "only {checked} examples");
+    assert!(checked >= 17, "only {checked} examples");
 }

@@ -21,21 +21,29 @@ use std::time::Duration;
 const ROOT: &str = concat!(env!("CARGO_MANIFEST_DIR"), "/../..");
 /// The refusals that a text can meet.
 const CAUSES: [(&str, &[u8]); 1] = [("filing", &[1, 2, 3, 5, 7, 8, 9, 13, 14])];
-/// Shapes p s n m t of about as many columns as a text may have, with s for
-/// every radix; two have more columns.
+/// Shapes p s n m t of about as many columns as a text may have, 360, with s for
+/// every radix.
 const LARGEST: [[usize; 5]; 9] = [
-    [3, 2, 2, 49, 4],
-    [251, 251, 1, 50, 4],
-    [17, 16, 3, 14, 14],
-    [251, 2, 12, 3, 16],
-    [127, 64, 2, 62, 2],
-    [5, 2, 7, 0, 32],
-    [251, 2, 1, 63, 2],
+    [3, 2, 2, 18, 17],
+    [251, 251, 1, 39, 8],
+    [17, 16, 3, 15, 19],
+    [251, 2, 12, 0, 29],
+    [127, 64, 2, 58, 5],
+    [5, 2, 10, 0, 32],
+    [251, 2, 1, 63, 4],
+    [17, 16, 2, 30, 8],
     [3, 2, 2, 62, 3],
+];
+/// Shapes of more columns: 361, 363, 384 and 1,024.
+const LARGER: [[usize; 5]; 4] = [
+    [3, 2, 2, 17, 18],
+    [5, 2, 11, 0, 32],
+    [251, 2, 2, 62, 5],
     [251, 2, 12, 52, 15],
 ];
 /// The same with their radices, up to 4,096 entries and beyond.
-const MIXED: [([usize; 5], &[u8]); 5] = [
+const MIXED: [([usize; 5], &[u8]); 6] = [
+    ([31, 2, 3, 57, 5], &[12, 31, 2]),
     ([31, 2, 3, 60, 3], &[12, 31, 2]),
     ([251, 251, 2, 49, 4], &[16, 251]),
     ([67, 3, 2, 49, 4], &[63, 65]),
@@ -170,7 +178,7 @@ fn what_is_printed_is_read_back() {
     let mut tally = Tally::default();
     cases("what is printed is read back", 50, |random| {
         let plan = if random.one_in(20) {
-            Owned::zeros(random.pick(&LARGEST[..7]))
+            Owned::zeros(random.pick(&LARGEST))
         } else {
             outline(random, 30)
         };
@@ -212,11 +220,13 @@ fn texts_in_pieces() {
 fn the_largest_shapes() {
     let mut tally = Tally::default();
     cases("the largest texts", 4, |random| {
-        let plan = if random.one_in(2) {
-            Owned::zeros(random.pick(&LARGEST))
-        } else {
-            let (shape, radices) = random.pick(&MIXED);
-            Owned::zeros(shape).with_radices(radices)
+        let plan = match random.below(5) {
+            0 => Owned::zeros(random.pick(&LARGER)),
+            1 | 2 => Owned::zeros(random.pick(&LARGEST)),
+            _ => {
+                let (shape, radices) = random.pick(&MIXED);
+                Owned::zeros(shape).with_radices(radices)
+            }
         };
         let mut text = some_text(random, plan, 6);
         if random.one_in(3) {
@@ -224,6 +234,66 @@ fn the_largest_shapes() {
         }
         agree(&[&text], &mut tally);
     });
+}
+
+/// A text of so many columns is accepted up to 360, and refused with 14 on line 2
+/// above, whatever the shape. No plan has 362 columns.
+#[test]
+fn the_most_columns() {
+    let (mut random, mut tally) = (Random::new(19, 0), Tally::default());
+    let most = LARGEST.map(|shape| Owned::zeros(shape).columns());
+    assert_eq!(most, [360, 360, 360, 360, 360, 330, 320, 288, 256]);
+    for shape in LARGEST {
+        let text = some_text(&mut random, Owned::zeros(shape), 0);
+        let printed = agree(&[&text], &mut tally);
+        assert_eq!(refusal(&printed), (0, 0), "{shape:?}");
+        let text = some_text(&mut random, Owned::zeros(shape), 6);
+        agree(&[&text], &mut tally);
+    }
+    for shape in LARGER {
+        let text = some_text(&mut random, Owned::zeros(shape), 6);
+        let printed = agree(&[&text], &mut tally);
+        assert_eq!(refusal(&printed), (14, 2), "{shape:?}");
+    }
+    // Every number of columns near the limit that a plan can have, its values
+    // line alone: then line 3 is missing.
+    for (products, variables) in (0..=32).flat_map(|t| (1..=64).map(move |l| (t, l))) {
+        let columns = (products + 1) * variables;
+        if (250..=400).contains(&columns) {
+            let text = format!("p s n links products\n3 2 1 {} {products}\n", variables - 1);
+            let printed = agree(&[text.as_bytes()], &mut tally);
+            let expected = if columns <= 360 { (13, 3) } else { (14, 2) };
+            assert_eq!(refusal(&printed), expected, "C = {columns}");
+        }
+    }
+}
+
+/// A store full of rows at the limit: every entry of a table of 256 values filed
+/// under 360 columns, and what is printed read back.
+#[test]
+fn a_whole_table_of_360_columns() {
+    let (mut random, mut tally) = (Random::new(20, 0), Tally::default());
+    // Uniform residues, so that the rows of the entries are independent.
+    let mut plan = Owned::zeros([17, 16, 2, 38, 8]);
+    assert_eq!((plan.columns(), plan.entries()), (360, 256));
+    for part in [&mut plan.weights, &mut plan.tables, &mut plan.d] {
+        *part = random.bytes(part.len(), 17);
+    }
+    let mut store = plan.empty_store();
+    let mut new = 0;
+    let mut kept = pairs(&mut random, &plan, 0..256);
+    kept.retain(|&(entry, value)| {
+        let mut column = 0;
+        let kept = raw::file(plan.lent(), &mut store, entry, value, &mut column) == 0;
+        new += usize::from(kept && column < 360);
+        kept
+    });
+    assert_eq!((kept.len(), new), (256, 256));
+    let printed = agree(&[&text(&plan, &kept)], &mut tally);
+    let (mut beta, mut back) = (vec![0; 360], vec![255; 360]);
+    assert_eq!(raw::coefficients(plan.lent(), &store, &mut beta), 0);
+    let answer = twins::read_listing(&plan, &printed, &mut back, &mut tally);
+    assert_eq!((answer, back), (Ok(()), beta));
 }
 
 /// The worst norm with seven digits, 64 weights of 125 or 126 in d, and with

@@ -4,6 +4,7 @@
 
 mod common;
 use common::faults::fault;
+use common::layout::Layout;
 use common::lots::lot_of;
 use common::plans::{outline, primes, product, reduced, Owned};
 use common::random::{cases, Random};
@@ -36,7 +37,7 @@ const MIXED: [([usize; 5], &[u8]); 6] = [
     ([241, 3, 5, 26, 32], &[2, 3, 4, 5, 34]),
 ];
 
-/// All twelve calls on a lot of this plan with other residues, a few more
+/// All fourteen calls on a lot of this plan with other residues, a few more
 /// filings, and a program.
 fn large(random: &mut Random, plan: Owned, tally: &mut Tally) {
     let mut lot = lot_of(random, plan);
@@ -125,19 +126,20 @@ fn nothing_overflows() {
         let beta = vec![most; plan.columns()];
         let last = plan.entries() - 1;
         // Every other row led, and all that reduced form leaves free at p - 1.
-        let (columns, width) = (plan.columns(), plan.columns() + 1);
-        let mut store = plan.empty_store();
+        let columns = plan.columns();
+        let mut rows = vec![vec![0; columns + 1]; columns];
         for q in (0..columns).step_by(2) {
-            store[q * width + q] = 1;
+            rows[q][q] = 1;
             for j in (q + 1..=columns).filter(|j| j % 2 == 1 || *j == columns) {
-                store[q * width + j] = most;
+                rows[q][j] = most;
             }
         }
         let lot = Lot {
             entry: last,
             value: plan.s - 1,
             row: vec![0; columns],
-            store,
+            store: Layout::Half.store(&rows),
+            full: Layout::Full.store(&rows),
             room: vec![7; 4 * plan.step_count()],
             steps: vec![],
             digits: plan.digits(last),
@@ -148,10 +150,11 @@ fn nothing_overflows() {
         twins::all(&lot, &mut tally);
         let plan = &lot.plan;
         // Every row led, so that the coefficients are those of β.
-        let mut full = plan.empty_store();
-        for q in 0..columns {
-            (full[q * width + q], full[q * width + columns]) = (1, most);
+        let mut rows = vec![vec![0; columns + 1]; columns];
+        for (q, row) in rows.iter_mut().enumerate() {
+            (row[q], row[columns]) = (1, most);
         }
+        let full = Layout::Half.store(&rows);
         let mut row = vec![0; columns];
         assert_eq!(twins::row(plan, last, &mut row, &mut tally), 0);
         let forced = Settled::Forced(plan.product(&row, &lot.beta) as usize);
@@ -287,7 +290,7 @@ fn radices_at_the_limits() {
     }
 }
 
-/// The same lists in all twelve calls, where the rest of a lot fits n digits.
+/// The same lists in all fourteen calls, where the rest of a lot fits n digits.
 #[test]
 fn radices_at_the_limits_in_every_call() {
     let mut tally = Tally::default();

@@ -23,7 +23,7 @@ fn examples() -> Vec<[String; 3]> {
             all.push([plan.to_string(), entries.to_string(), listing]);
         }
     }
-    assert!(all.len() >= 15, "only {} examples", all.len());
+    assert!(all.len() >= 17, "only {} examples", all.len());
     all
 }
 

@@ -115,6 +115,7 @@ fn foreign_call(random: &mut Random, plan: &Owned, store: &[u8], tally: &mut Tal
         value: random.below(plan.s),
         row: vec![0; plan.columns()],
         store: store.to_vec(),
+        full: plan.widened(store),
         beta: vec![0; plan.columns()],
         room: vec![],
         steps: vec![],

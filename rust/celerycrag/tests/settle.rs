@@ -8,6 +8,7 @@
 //! are free early, late and nowhere: from C = 10 to 1,024, and in all tiny stores.
 
 mod common;
+use common::layout::Layout;
 use common::plans::{reduced_with, Owned};
 use common::random::{cases, Random};
 use common::tally::Tally;
@@ -45,18 +46,23 @@ impl Asked {
     /// What the row is in a column without a pivot once the rows led have
     /// cleared it.
     fn residual(&self, store: &[u8], led: &[bool], column: usize) -> usize {
-        let width = self.plan.columns() + 1;
         let before = (0..column).filter(|&q| led[q]);
-        let taken = before.map(|q| self.row[q] as usize * store[q * width + column] as usize);
+        let taken = before.map(|q| self.row[q] as usize * store[self.place(q, column)] as usize);
         let p = self.plan.p;
         (self.row[column] as usize + p - taken.sum::<usize>() % p) % p
+    }
+
+    /// The place of a column of a row, on the diagonal or right of it.
+    fn place(&self, row: usize, column: usize) -> usize {
+        let place = Layout::Half.place(self.plan.columns(), row, column);
+        place.expect("a byte of the row")
     }
 
     /// A random store with these rows led, that of the first column among them,
     /// on which the entry is free in `column`, or forced where that is C.
     fn store(&self, random: &mut Random, led: &[bool], column: usize) -> Vec<u8> {
         assert!(led[self.first]);
-        let (p, columns, width) = (self.plan.p, self.plan.columns(), self.plan.columns() + 1);
+        let (p, columns) = (self.plan.p, self.plan.columns());
         let mut store = reduced_with(random, &self.plan, led);
         // The row led in the first column makes each later one what it shall be.
         for j in (self.first..columns).filter(|&j| !led[j]) {
@@ -65,7 +71,7 @@ impl Asked {
                 j if j == column => random.within(1, p - 1),
                 _ => random.below(p),
             };
-            let place = self.first * width + j;
+            let place = self.place(self.first, j);
             store[place] = 0;
             let without = self.residual(&store, led, j);
             let lead = self.row[self.first] as usize;
@@ -77,9 +83,9 @@ impl Asked {
 
     /// What the coefficients on the right of the rows led give the entry.
     fn given(&self, store: &[u8]) -> usize {
-        let width = self.plan.columns() + 1;
-        let right: Vec<u8> = store.chunks(width).map(|row| row[width - 1]).collect();
-        self.plan.product(&self.row, &right) as usize
+        let columns = self.plan.columns();
+        let right = (0..columns).map(|q| store[self.place(q, columns)]);
+        self.plan.product(&self.row, &right.collect::<Vec<u8>>()) as usize
     }
 
     /// Settles the entry on a store with these rows led: free in each of these

@@ -1,25 +1,18 @@
-//! The store test where two bytes of a store in reduced form are changed, or
-//! more: faults that could hide each other from a test that keeps a little of
-//! the rows it has seen. Compared with the reference, and with what is known
-//! where each change by itself is a fault.
+//! The verdict on a store in reduced form of which two bytes are changed, or
+//! more, in either layout: faults that could hide each other from a test that
+//! keeps a little of the rows it has seen. Compared with the reference, and with
+//! what is known where each change by itself is a fault.
 
 mod common;
+use common::layout::{Layout, LAYOUTS};
 use common::plans::primes;
 use common::random::{cases, Random};
-use common::stores::{ways, Change, Sound};
+use common::stores::{ways, Change, Sound, VERDICTS};
 use common::tally::Tally;
 
 const PRIMES: [usize; 3] = [3, 17, 251];
-/// Both verdicts of the store test.
-const VERDICTS: [(&str, &[u8]); 1] = [("test", &[6])];
 
 type Place = (usize, usize);
-
-/// The places of a store by row and column, right-hand sides too.
-fn places(columns: usize) -> Vec<Place> {
-    let row = |row| (0..=columns).map(move |column| (row, column));
-    (0..columns).flat_map(row).collect()
-}
 
 /// Each two of these places once, the earlier one first.
 fn pairs(places: &[Place]) -> impl Iterator<Item = (Place, Place)> + '_ {
@@ -33,13 +26,15 @@ fn pairs(places: &[Place]) -> impl Iterator<Item = (Place, Place)> + '_ {
 fn every_pair_of_bytes() {
     let (mut random, mut tally) = (Random::new(9, 0), Tally::default());
     let mut made_good = 0;
-    for (columns, p) in [(2, 3), (3, 17), (4, 3), (4, 17), (4, 251)] {
+    let shapes = [(2, 3), (3, 17), (4, 3), (4, 17), (4, 251)];
+    let shapes = shapes.map(|shape| LAYOUTS.map(|layout| (layout, shape)));
+    for (layout, (columns, p)) in shapes.concat() {
         let near_p = [p - 1, p, 256 - p].map(|byte| byte as u8);
         let values = [&near_p[..], &[0, 1, 2, 127, 128, 129, 254, 255]].concat();
         for set in 0..1 << columns {
             let led = (0..columns).map(|q| set >> q & 1 == 1).collect();
-            let mut sound = Sound::new(&mut random, p, led);
-            for (one, other) in pairs(&places(columns)) {
+            let mut sound = Sound::new(&mut random, layout, p, led);
+            for (one, other) in pairs(&layout.places(columns)) {
                 for &byte in &values {
                     for &second in &values {
                         let changes = [(one.0, one.1, byte), (other.0, other.1, second)];
@@ -68,11 +63,14 @@ fn closed(sound: &Sound, (row, column): Place) -> bool {
 #[test]
 fn two_in_one_column_or_row() {
     let (mut random, mut tally) = (Random::new(10, 0), Tally::default());
-    for columns in [5, 16, 17] {
+    for (columns, layout) in [5, 16, 17]
+        .map(|c| LAYOUTS.map(|layout| (c, layout)))
+        .concat()
+    {
         for (number, led) in ways(columns).into_iter().enumerate() {
-            let mut sound = Sound::new(&mut random, PRIMES[number % 3], led);
+            let mut sound = Sound::new(&mut random, layout, PRIMES[number % 3], led);
             sound.expect(0, &[], &mut tally);
-            let mut places = places(columns);
+            let mut places = layout.places(columns);
             places.retain(|&place| closed(&sound, place));
             for (one, other) in pairs(&places) {
                 if one.0 != other.0 && one.1 != other.1 {
@@ -102,10 +100,11 @@ fn another(random: &mut Random, p: usize, old: u8) -> u8 {
     }
 }
 
-/// A row and a column, three times in four on the diagonal or right of it.
-fn place(random: &mut Random, columns: usize) -> Place {
+/// A row and a column that the layout keeps, three times in four on the diagonal
+/// or right of it.
+fn place(random: &mut Random, layout: Layout, columns: usize) -> Place {
     let (row, column) = (random.below(columns), random.below(columns + 1));
-    if column < row && !random.one_in(4) {
+    if column < row && (layout == Layout::Half || !random.one_in(4)) {
         (column, row)
     } else {
         (row, column)
@@ -113,7 +112,7 @@ fn place(random: &mut Random, columns: usize) -> Place {
 }
 
 /// Where the second of two faults stands to the first. Of a place and its
-/// mirror, one is left of the diagonal.
+/// mirror, one is left of the diagonal, where only the full layout has bytes.
 const RELATIONS: [&str; 5] = ["one row", "one column", "row 0", "anywhere", "mirrored"];
 
 #[test]
@@ -126,17 +125,21 @@ fn random_pairs() {
             _ => random.within(2, 64),
         };
         let led = (0..columns).map(|_| random.one_in(one_row_in)).collect();
-        let mut sound = Sound::new(random, p, led);
-        let (one, any) = (place(random, columns), place(random, columns));
+        let layout = random.pick(&LAYOUTS);
+        let mut sound = Sound::new(random, layout, p, led);
+        let [one, any] = [(), ()].map(|()| place(random, layout, columns));
         let relation = random.pick(&RELATIONS);
         let other = match relation {
             "one row" => (one.0, any.1),
             "one column" => (any.0, one.1),
             "row 0" => (0, any.1),
-            "mirrored" if one.1 < columns => (one.1, one.0),
-            "mirrored" => return,
+            "mirrored" => (one.1, one.0),
             _ => any,
         };
+        // Not a right-hand side's mirror, and nothing that the layout lacks.
+        if other.0 >= columns || layout.place(columns, other.0, other.1).is_none() {
+            return;
+        }
         let byte = another(random, p, sound.at(one.0, one.1));
         let old = sound.at(other.0, other.1);
         let second = match random.below(5) {
@@ -164,14 +167,15 @@ fn random_pairs() {
 }
 
 /// Three values below the diagonals in three columns, of which the second has no
-/// pivot: in one row, and each in a row of its own.
+/// pivot: in one row, and each in a row of its own. Only the full layout has bytes
+/// there.
 #[test]
 fn three_columns_at_once() {
     let (mut random, mut tally) = (Random::new(11, 0), Tally::default());
     for columns in [4, 33, 64, 256, 1_024] {
         for p in PRIMES {
             let led = (0..columns).map(|q| q % 3 != 1).collect();
-            let mut sound = Sound::new(&mut random, p, led);
+            let mut sound = Sound::new(&mut random, Layout::Full, p, led);
             sound.expect(0, &[], &mut tally);
             let last = columns - 1;
             for byte in [1, p - 1, p].map(|byte| byte as u8) {
@@ -182,7 +186,7 @@ fn three_columns_at_once() {
             }
         }
     }
-    tally.complete(&VERDICTS, 0);
+    tally.complete(&[("to_half", &[6])], 0);
 }
 
 /// Faults of which the number or the sum is 0 modulo 256.
@@ -199,10 +203,17 @@ fn as_many_as_a_byte_holds() {
         &|k| (last, k),
         &|k| (k, columns),
     ];
-    for (led, lines) in [(true, &lines[..4]), (false, &lines)] {
-        let mut sound = Sound::new(&mut random, 251, vec![led; columns]);
+    for (layout, led) in LAYOUTS
+        .map(|layout| [true, false].map(|led| (layout, led)))
+        .concat()
+    {
+        let mut sound = Sound::new(&mut random, layout, 251, vec![led; columns]);
         sound.expect(0, &[], &mut tally);
-        for line in lines {
+        for (number, line) in lines.iter().enumerate() {
+            let (_, column) = line(0);
+            if (layout == Layout::Half && [1, 3].contains(&number)) || (led && column == columns) {
+                continue;
+            }
             for (byte, count) in [
                 (1, 256),
                 (1, 512),

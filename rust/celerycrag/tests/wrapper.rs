@@ -246,11 +246,52 @@ fn a_store_files_and_comes_back_from_its_bytes() {
     let bytes = store.as_bytes().to_vec();
     assert_eq!(Store::from_bytes(&plan, bytes.clone()), Ok(store.clone()));
     assert_eq!(store.into_bytes(), bytes);
+    assert_eq!(bytes, [1, 0, 0, 2, 0, 1, 0, 1, 1, 1, 1, 1, 0, 0]);
     let short = bytes[1..].to_vec();
     assert_eq!(Store::from_bytes(&plan, short), Err(Refusal::LENGTH));
     let mut damaged = bytes;
     damaged[0] = 2;
     assert_eq!(Store::from_bytes(&plan, damaged), Err(Refusal::DAMAGED));
+}
+
+#[test]
+fn a_store_moves_from_the_full_layout_and_back() {
+    let plan = xor();
+    let mut store = Store::new(&plan);
+    assert_eq!(store.to_full_bytes(), Ok(vec![0; 20]));
+    assert_eq!(Store::from_full_bytes(&plan, &[0; 20]), Ok(store.clone()));
+    // The store that XOR had on disk after two entries.
+    let kept = [
+        1, 0, 1, 0, 1, //
+        0, 1, 0, 1, 1, //
+        0, 0, 0, 0, 0, //
+        0, 0, 0, 0, 0,
+    ];
+    let mut moved = Store::from_full_bytes(&plan, &kept).expect("a store of filings");
+    store.file(1, 1).expect("kept");
+    store.file(2, 1).expect("kept");
+    assert_eq!(moved, store);
+    assert_eq!(moved.plan(), &plan);
+    assert_eq!(moved.to_full_bytes().as_deref(), Ok(&kept[..]));
+    // It goes on as the one that was not moved.
+    assert_eq!(moved.file(3, 0), store.file(3, 0));
+    assert_eq!(moved.file(3, 1), Err(Refusal::CONTRADICTION));
+    assert_eq!(moved.coefficients(), Ok(vec![0, 1, 1, 0]));
+    assert_eq!(moved, store);
+
+    // Lengths, those of the other layout too.
+    let from_full = |bytes: &[u8]| Store::from_full_bytes(&plan, bytes);
+    for length in [0, 14, 19, 21, 40] {
+        assert_eq!(from_full(&vec![0; length]), Err(Refusal::LENGTH));
+    }
+    let full = kept.to_vec();
+    assert_eq!(Store::from_bytes(&plan, full), Err(Refusal::LENGTH));
+    // A byte of p, a lead of 2, and anything left of the diagonal.
+    for (place, byte) in [(2, 3), (0, 2), (5, 1), (10, 2), (11, 1), (16, 255), (17, 1)] {
+        let mut damaged = kept;
+        damaged[place] = byte;
+        assert_eq!(from_full(&damaged), Err(Refusal::DAMAGED), "byte {place}");
+    }
 }
 
 const fn forced(residue: u8) -> Settled {

@@ -1,5 +1,5 @@
 //! A naive twin of the table library: document 01, with the requests of 02 that
-//! have landed (C-11, C-12, C-14, C-15; C-13 changes no answer), in plain Rust.
+//! have landed (C-11, C-12, C-14 to C-16; C-13 changes no answer), in plain Rust.
 //!
 //! It is written from the papers alone and shares no line with the library.
 //! Tests and benchmarks compare the two, so every function here takes the
@@ -14,6 +14,8 @@
 //! | [`file()`] | store in and out, entry, value | [`Filed`] | 1 2 3 4 5 6 7 8 9 |
 //! | [`coefficients`] | store, β out | number | 1 2 3 4 5 6 |
 //! | [`settle`] | store, entry | [`Settled`] | 1 2 3 4 5 6 7 |
+//! | [`to_half`] | full store, store out | number | 1 2 3 4 5 6 |
+//! | [`to_full`] | store, full store out | number | 1 2 3 4 5 6 |
 //! | [`check_writing`] | β, step slice | number | 1 2 3 4 5 10 |
 //! | [`write()`] | β, step slice in and out | the filled part | the same |
 //! | [`run`] | steps, digits | [`Ran`], or a number | 1 2 3 4 5 11 12 |
@@ -26,12 +28,15 @@
 //! Every call but the last takes the numbers `p s n m t`, then the plan's
 //! parts `radices weights tables d`, then its own parts. Any number may be
 //! lent, up to 2^64 - 1. A number answered is 0 where the call accepts. A
-//! refused call leaves every lent slice as it was.
+//! refused call leaves every lent slice as it was. A store is in the new layout
+//! of 02, C-16, and a full store in that of 01; [`halved`] and [`widened`] turn
+//! the bytes of one into those of the other without a test.
 
 // Entry points take the plan's numbers and parts one by one, as the library's do.
 #![allow(clippy::too_many_arguments)]
 
 mod field;
+mod layout;
 mod lines;
 mod listing;
 mod norm;
@@ -44,6 +49,7 @@ mod store;
 mod text;
 
 pub use field::{inverse, is_odd_prime};
+pub use layout::{halved, to_full, to_half, widened};
 pub use listing::listing;
 pub use norm::worst_norm;
 pub use plan::{check_plan, Plan};

@@ -28,8 +28,11 @@ pub(crate) enum Part {
     Row,
     /// C coefficients.
     Beta,
-    /// C rows of C+1 bytes.
+    /// Of row q, for each q below C, the columns q to C-1 and the right-hand
+    /// side (02, C-16).
     Store,
+    /// C rows of C+1 bytes, the store as 01 has it.
+    FullStore,
     /// n digits.
     Digits,
 }
@@ -81,7 +84,9 @@ impl Plan<'_> {
     fn length(&self, part: &Part) -> usize {
         match part {
             Part::Row | Part::Beta => self.columns(),
-            Part::Store => self.columns() * (self.columns() + 1),
+            // 02, C-16: "C(C+1)/2 + C bytes".
+            Part::Store => self.columns() * (self.columns() + 1) / 2 + self.columns(),
+            Part::FullStore => self.columns() * (self.columns() + 1),
             Part::Digits => self.n,
         }
     }

@@ -1,7 +1,12 @@
 //! Document 01, "The store": reduced form, filing, and the coefficients read
 //! off; with document 02, C-12: the digit an unfiled entry already has.
+//!
+//! The calls are lent stores in the new layout of 02, C-16. Within, everything is
+//! done on the rows of the old store that a lent one stands for, as 01 says it:
+//! "All filing replies and coefficients equal those of the old layout".
 
 use crate::field::inverse;
+use crate::layout::{halved, widened};
 use crate::plan::{accept, Part};
 use crate::row::row_of;
 
@@ -30,10 +35,10 @@ pub enum Settled {
     Refused(u32),
 }
 
-/// The lent bytes as C rows of C+1 numbers.
-fn rows_of(columns: usize, store: &[u8]) -> Vec<Vec<usize>> {
+/// The bytes of an old store as C rows of C+1 numbers.
+pub(crate) fn rows_of(columns: usize, full: &[u8]) -> Vec<Vec<usize>> {
     let row = |bytes: &[u8]| bytes.iter().map(|&x| x as usize).collect();
-    store.chunks(columns + 1).map(row).collect()
+    full.chunks(columns + 1).map(row).collect()
 }
 
 /// The first of the C coefficients that is not 0; the right-hand side is none.
@@ -43,7 +48,7 @@ fn lead(columns: usize, row: &[usize]) -> Option<usize> {
 
 /// Whether the rows are in reduced form: all numbers below p, and row q either
 /// all zero, or led by a 1 in column q that is zero in every other row.
-fn is_reduced(p: usize, columns: usize, rows: &[Vec<usize>]) -> bool {
+pub(crate) fn is_reduced(p: usize, columns: usize, rows: &[Vec<usize>]) -> bool {
     let below_p = rows.iter().flatten().all(|&x| x < p);
     let row_is_right = |q: usize| {
         let zero = rows[q].iter().all(|&x| x == 0);
@@ -116,7 +121,7 @@ pub fn test_store(
         Ok(plan) => plan,
         Err(number) => return number,
     };
-    let rows = rows_of(plan.columns(), store);
+    let rows = rows_of(plan.columns(), &widened(plan.columns(), store));
     if is_reduced(plan.p, plan.columns(), &rows) {
         0
     } else {
@@ -145,7 +150,7 @@ pub fn file(
         Ok(plan) => plan,
         Err(number) => return Filed::Refused(number),
     };
-    let mut rows = rows_of(plan.columns(), store);
+    let mut rows = rows_of(plan.columns(), &widened(plan.columns(), store));
     if !is_reduced(plan.p, plan.columns(), &rows) {
         return Filed::Refused(6);
     }
@@ -159,9 +164,8 @@ pub fn file(
     equation.push(value as usize);
     let answer = file_equation(plan.p, &mut rows, equation);
     if let Filed::New(_) = answer {
-        for (out, x) in store.iter_mut().zip(rows.into_iter().flatten()) {
-            *out = x as u8;
-        }
+        let full: Vec<u8> = rows.into_iter().flatten().map(|x| x as u8).collect();
+        store.copy_from_slice(&halved(plan.columns(), &full));
     }
     answer
 }
@@ -187,7 +191,7 @@ pub fn coefficients(
         Ok(plan) => plan,
         Err(number) => return number,
     };
-    let rows = rows_of(plan.columns(), store);
+    let rows = rows_of(plan.columns(), &widened(plan.columns(), store));
     if !is_reduced(plan.p, plan.columns(), &rows) {
         return 6;
     }
@@ -220,7 +224,7 @@ pub fn settle(
         Err(number) => return Settled::Refused(number),
     };
     let (p, columns) = (plan.p, plan.columns());
-    let rows = rows_of(columns, store);
+    let rows = rows_of(columns, &widened(columns, store));
     if !is_reduced(p, columns, &rows) {
         return Settled::Refused(6);
     }

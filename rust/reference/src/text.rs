@@ -1,13 +1,15 @@
 //! Document 01, "The filing program", with the radices line of document 02,
-//! C-11: from the bytes of standard input to the bytes of standard output.
+//! C-11, and its limit of columns, C-16: from the bytes of standard input to the
+//! bytes of standard output.
 
 use crate::lines::{Lines, Refusal};
 use crate::listing::listing;
 use crate::plan::numbers_cause;
 use crate::store::{coefficients, file, Filed};
 
-/// The most columns of a plan in text, so that the store fits 64 KiB.
-const COLUMNS: u64 = 255;
+/// The most columns of a plan in text. 02, C-16: "The filing program then takes C
+/// up to 360 (65,340 bytes)".
+const COLUMNS: u64 = 360;
 
 /// Judges the lines one after another, filing entries as they are read, and
 /// gives the listing or the refusal of the first line at fault.
@@ -47,7 +49,7 @@ fn judge(text: &[u8]) -> Result<String, Refusal> {
     }
 
     lines.names("entry value")?;
-    let mut store = vec![0; (columns * (columns + 1)) as usize];
+    let mut store = vec![0; (columns * (columns + 1) / 2 + columns) as usize];
     while !lines.at_end() {
         let pair = lines.numbers(2)?;
         let (entry, value) = (pair[0], pair[1]);

@@ -28,11 +28,10 @@ fn product(plan: &Owned, row: &[u8], beta: &[u8]) -> u8 {
     (sum % plan.p as usize) as u8
 }
 
-/// Whether β satisfies every row of the store.
-fn satisfies(plan: &Owned, store: &[u8], beta: &[u8]) -> bool {
+/// Whether β satisfies every row of a store.
+fn satisfies(plan: &Owned, rows: &[Vec<u8>], beta: &[u8]) -> bool {
     let columns = plan.columns();
-    store
-        .chunks(columns + 1)
+    rows.iter()
         .all(|row| product(plan, &row[..columns], beta) == row[columns])
 }
 
@@ -82,12 +81,8 @@ fn check_list(plan: &Owned, list: &[(u64, u64)]) {
         match answer {
             Filed::New(column) => {
                 assert!(both.len() < fitting.len());
-                assert!(
-                    before[column * (plan.columns() + 1)..][..plan.columns() + 1]
-                        .iter()
-                        .all(|&x| x == 0)
-                );
-                assert_eq!(store[column * (plan.columns() + 1) + column], 1);
+                assert!(plan.rows(&before)[column].iter().all(|&x| x == 0));
+                assert_eq!(plan.rows(&store)[column][column], 1);
             }
             _ => assert_eq!(store, before),
         }
@@ -96,7 +91,8 @@ fn check_list(plan: &Owned, list: &[(u64, u64)]) {
             kept.push((entry, value));
         }
         assert_eq!(plan.test(&store), 0);
-        let satisfying = all.iter().filter(|beta| satisfies(plan, &store, beta));
+        let stored = plan.rows(&store);
+        let satisfying = all.iter().filter(|beta| satisfies(plan, &stored, beta));
         assert!(satisfying.eq(&fitting));
     }
 
@@ -265,12 +261,13 @@ fn every_store_of_three_columns_settles_every_row() {
     let plan = Owned::zeros(3, 3, 3, 0, 0);
     let all = every_beta(&plan);
     let mut reduced = 0;
-    for number in 0..3_usize.pow(12) {
-        let store: Vec<u8> = (0..12)
+    for number in 0..3_usize.pow(9) {
+        let store: Vec<u8> = (0..9)
             .map(|j| (number / 3_usize.pow(j) % 3) as u8)
             .collect();
         if plan.test(&store) == 0 {
-            let fits = |beta: &&Vec<u8>| satisfies(&plan, &store, beta);
+            let stored = plan.rows(&store);
+            let fits = |beta: &&Vec<u8>| satisfies(&plan, &stored, beta);
             let fitting: Vec<Vec<u8>> = all.iter().filter(fits).cloned().collect();
             assert_eq!(plan.settled(&store), settled_by(&plan, &fitting));
             reduced += 1;

@@ -49,6 +49,26 @@ fn des_s1(entry: u64) -> u64 {
     S1[row as usize][(entry >> 1 & 15) as usize]
 }
 
+/// The product of two bytes in the field of AES, modulo x^8 + x^4 + x^3 + x + 1.
+fn times(one: u64, other: u64) -> u64 {
+    let shifted = (0..8).filter(|k| other >> k & 1 == 1).map(|k| one << k);
+    let product = shifted.fold(0, |sum, term| sum ^ term);
+    let reduce = |product: u64, k: u64| match product >> k & 1 {
+        1 => product ^ 0x11b << (k - 8),
+        _ => product,
+    };
+    (8..15).rev().fold(product, reduce)
+}
+
+/// The S-box of AES, by FIPS 197: the inverse of a byte, 0 for 0, and then each
+/// of its bits with the four before it, and 0x63.
+fn aes(entry: u64) -> u64 {
+    let inverse = (0..256).find(|&other| times(entry, other) == 1);
+    let inverse = inverse.unwrap_or(0) as u8;
+    let turned = |k| inverse.rotate_left(k);
+    (0..5).map(turned).fold(0x63, |sum, term| sum ^ term).into()
+}
+
 #[test]
 fn the_s_boxes_are_permutations() {
     let sorted = |mut values: Vec<u64>| {
@@ -63,6 +83,11 @@ fn the_s_boxes_are_permutations() {
     for row in S1 {
         assert_eq!(sorted(row.to_vec()), Vec::from_iter(0..16));
     }
+    assert_eq!(sorted((0..256).map(aes).collect()), Vec::from_iter(0..256));
+    assert_eq!(
+        [0, 1, 2, 3, 0x53, 0xff].map(aes),
+        [0x63, 0x7c, 0x77, 0x7b, 0xed, 0x16]
+    );
     assert_eq!(
         (0..5).map(ascon).collect::<Vec<_>>(),
         [0x04, 0x0b, 0x1f, 0x14, 0x1a]
@@ -103,7 +128,7 @@ fn mixed_example(name: &str, shape: [u64; 5], radices: &[u64], table: impl Fn(u6
     }
     (plan.weights, plan.tables, plan.d) = (bytes(&weights), bytes(&tables), bytes(&d));
     assert_eq!(plan.check(), 0, "{name}");
-    assert!(plan.columns() <= 255, "{name}");
+    assert!(plan.columns() <= 360, "{name}");
 
     assert_eq!(lines.next(), Some("entry value"));
     for entry in 0..plan.entries() {
@@ -171,6 +196,14 @@ fn des_s1_first_bit() {
     example("des-s1-bit3-p3", [3, 2, 6, 6, 4], |entry| {
         des_s1(entry) >> 3
     });
+}
+
+/// Both output digits of AES in radix 16, under one plan of 288 columns.
+#[test]
+fn aes_by_digit() {
+    let shape = [17, 16, 2, 30, 8];
+    example("aes-high", shape, |entry| aes(entry) / 16);
+    example("aes-low", shape, |entry| aes(entry) % 16);
 }
 
 #[test]

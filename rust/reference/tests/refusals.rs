@@ -75,13 +75,13 @@ fn row_in_order() {
 #[test]
 fn test_store_in_order() {
     let mut broken = Broken::new();
-    let mut store = vec![1; 41];
+    let mut store = vec![1; 26];
     for cause in [1, 2, 3, 4, 5, 6] {
         assert_eq!(broken.plan.test(&store), cause);
         broken.repair(cause);
         match cause {
-            4 => store = vec![1; 42],
-            6 => store = vec![0; 42],
+            4 => store = vec![1; 27],
+            6 => store = vec![0; 27],
             _ => {}
         }
     }
@@ -91,7 +91,7 @@ fn test_store_in_order() {
 #[test]
 fn file_in_order() {
     let mut broken = Broken::new();
-    let (mut store, mut entry, mut value) = (vec![1; 43], 4, 2);
+    let (mut store, mut entry, mut value) = (vec![1; 28], 4, 2);
     for cause in [1, 2, 3, 4, 5, 6, 7, 8, 9] {
         let before = store.clone();
         assert_eq!(
@@ -101,8 +101,8 @@ fn file_in_order() {
         assert_eq!(store, before);
         broken.repair(cause);
         match cause {
-            4 => store = vec![1; 42],
-            6 => store = vec![0; 42],
+            4 => store = vec![1; 27],
+            6 => store = vec![0; 27],
             7 => entry = 3,
             8 => {
                 value = 1;
@@ -118,7 +118,7 @@ fn file_in_order() {
 #[test]
 fn coefficients_in_order() {
     let mut broken = Broken::new();
-    let (mut store, mut beta) = (vec![1; 42], vec![99; 7]);
+    let (mut store, mut beta) = (vec![1; 27], vec![99; 7]);
     for cause in [1, 2, 3, 4, 5, 6] {
         let before = beta.clone();
         assert_eq!(call!(coefficients, broken.plan, &store, &mut beta), cause);
@@ -126,7 +126,7 @@ fn coefficients_in_order() {
         broken.repair(cause);
         match cause {
             4 => beta = vec![99; 6],
-            6 => store = vec![0; 42],
+            6 => store = vec![0; 27],
             _ => {}
         }
     }
@@ -137,14 +137,14 @@ fn coefficients_in_order() {
 #[test]
 fn settle_in_order() {
     let mut broken = Broken::new();
-    let (mut store, mut entry) = (vec![1; 43], 4);
+    let (mut store, mut entry) = (vec![1; 28], 4);
     for cause in [1, 2, 3, 4, 5, 6, 7] {
         let answer = broken.plan.settle(&store, entry);
         assert_eq!(answer, Settled::Refused(cause));
         broken.repair(cause);
         match cause {
-            4 => store = vec![1; 42],
-            6 => store = vec![0; 42],
+            4 => store = vec![1; 27],
+            6 => store = vec![0; 27],
             7 => entry = 3,
             _ => {}
         }
@@ -296,12 +296,17 @@ fn every_part_in_another_length_is_4_and_every_large_byte_5() {
 fn lengths_come_before_values_across_parts() {
     let mut plan = Broken::new().good;
     plan.weights[0] = 3;
-    assert_eq!(plan.test(&[0; 41]), 4);
-    assert_eq!(plan.test(&[0; 42]), 5);
+    assert_eq!(plan.test(&[0; 26]), 4);
+    assert_eq!(plan.test(&[0; 27]), 5);
+    assert_eq!(plan.test(&[0; 42]), 4);
     assert_eq!(call!(row, plan, 0, &mut [0; 7]), 4);
-    assert_eq!(call!(coefficients, plan, &[0; 42], &mut [0; 5]), 4);
-    assert_eq!(plan.settle(&[0; 43], 4), Settled::Refused(4));
-    assert_eq!(plan.settle(&[0; 42], 4), Settled::Refused(5));
+    assert_eq!(call!(coefficients, plan, &[0; 27], &mut [0; 5]), 4);
+    assert_eq!(plan.settle(&[0; 28], 4), Settled::Refused(4));
+    assert_eq!(plan.settle(&[0; 27], 4), Settled::Refused(5));
+    assert_eq!(plan.to_half(&[9; 42], &[9; 28]), Err(4));
+    assert_eq!(plan.to_half(&[9; 42], &[9; 27]), Err(5));
+    assert_eq!(plan.to_full(&[9; 27], &[9; 41]), Err(4));
+    assert_eq!(plan.to_full(&[9; 27], &[9; 42]), Err(5));
     assert_eq!(call!(check_writing, plan, &[9; 7], &[]), 4);
     assert_eq!(plan.run(&[9], &[9]), Err(4));
     assert_eq!(plan.worst(&[9; 7]), Err(4));

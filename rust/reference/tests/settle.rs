@@ -67,18 +67,18 @@ fn a_row_of_zeros_is_forced_0_on_any_store() {
     }
     // A full store that no list of filings left.
     let columns = plan.columns();
-    let mut full = plan.empty_store();
-    for (q, row) in full.chunks_mut(columns + 1).enumerate() {
+    let mut rows = plan.rows(&plan.empty_store());
+    for (q, row) in rows.iter_mut().enumerate() {
         (row[q], row[columns]) = (1, 4);
     }
-    assert_eq!(plan.settle(&full, 0), Forced(0));
+    assert_eq!(plan.settle(&plan.store(&rows), 0), Forced(0));
 }
 
 #[test]
 fn on_a_full_store_every_entry_is_forced() {
     // β is 3 5 6 modulo 7, and the row is the digits.
     let plan = Owned::mixed(7, 2, &[7, 2, 7], 0, 0);
-    let full = [1, 0, 0, 3, 0, 1, 0, 5, 0, 0, 1, 6];
+    let full = [1, 0, 0, 3, 1, 0, 5, 1, 6];
     for entry in 0..plan.entries() {
         let row = plan.row(entry);
         let sum = 3 * row[0] as usize + 5 * row[1] as usize + 6 * row[2] as usize;

@@ -265,11 +265,21 @@ fn reading_14_the_order_on_the_values_line() {
         ("3 2 1 0 33", 3),
         ("3 2 2 62 16", 3),
         ("3 2 2 62 15", 14),
-        ("3 2 2 62 3", 14),
-        ("3 2 1 7 31", 14),
+        // 02, C-16: C = 361 is the first above the limit that a plan can have,
+        // then 363.
+        ("3 2 1 18 18", 14),
+        ("3 2 11 0 32", 14),
+        ("3 2 2 62 5", 14),
         // The values line does not ask what s^n is.
-        ("3 2 13 51 3", 14),
-        // C = 255 passes, and line 3 is then missing.
+        ("3 2 13 51 5", 14),
+        // C = 360 in three ways, 352, 256 and 255 pass, and line 3 is then
+        // missing.
+        ("3 2 2 18 17", 0),
+        ("3 2 12 0 29", 0),
+        ("3 2 2 58 5", 0),
+        ("3 2 11 0 31", 0),
+        ("3 2 2 62 3", 0),
+        ("3 2 1 7 31", 0),
         ("3 2 2 49 4", 0),
         ("3 2 12 0 0", 0),
         ("3 2 13 0 0", 0),
@@ -295,10 +305,13 @@ fn reading_15_no_overflow() {
 
 #[test]
 fn reading_16_cause_14_stands_on_the_values_line() {
-    refused(then(NAMES, "3 2 2 62 3\nnonsense"), 14, 2);
-    refused(then(NAMES, "3 2 2 62 3"), 14, 2);
-    refused(then(NAMES, "3 2 2 62 3\n9 9"), 14, 2);
-    refused(then(NAMES, "3 2 2 62 3\n1 1"), 14, 2);
+    refused(then(NAMES, "3 2 2 17 18\nnonsense"), 14, 2);
+    refused(then(NAMES, "3 2 2 17 18"), 14, 2);
+    refused(then(NAMES, "3 2 2 17 18\n9 9"), 14, 2);
+    refused(then(NAMES, "3 2 2 17 18\n1 1"), 14, 2);
+    // One product fewer: C = 342, and line 3 is looked at.
+    refused(then(NAMES, "3 2 2 17 17\nnonsense"), 13, 3);
+    refused(then(NAMES, "3 2 2 17 17\n9 9"), 2, 3);
 }
 
 #[test]
@@ -511,9 +524,12 @@ fn reading_52_the_order_on_and_before_the_radices_line() {
         ("9 2 2 0 1", "1 1", 1, 2),
         ("3 1 2 0 1", "1 1", 2, 2),
         ("3 2 2 0 33", "1 1", 3, 2),
-        ("3 2 2 62 3", "1 1", 14, 2),
-        ("3 2 2 62 3", "2 2 2", 14, 2),
-        ("67 2 3 61 3", "67 67 67", 14, 2),
+        ("3 2 2 17 18", "1 1", 14, 2),
+        ("3 2 2 17 18", "2 2 2", 14, 2),
+        ("67 2 3 16 18", "67 67 67", 14, 2),
+        ("3 2 2 18 17", "1 1", 2, 3),
+        ("3 2 2 18 17", "2 2 2", 13, 3),
+        ("67 2 3 17 17", "67 67 67", 3, 3),
         // Then 13 before 2 before 3.
         ("67 2 3 0 0", "67 67 68 0", 13, 3),
         ("67 2 3 0 0", "67 68", 13, 3),

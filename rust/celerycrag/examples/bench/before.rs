@@ -1,89 +1,37 @@
-//! The store test of the library beside that of another build, of the landing
-//! before. Both are shared objects here, which `run-bench` links alike: in short
-//! calls it counts where the code lies, and in one program that differs.
+//! The calls on a store of the library beside those of another build, of the
+//! landing before: each build is lent the same store in its own layout.
 
+use crate::builds::Build;
 use crate::plans::Case;
-use crate::settling::first_tenth;
-use crate::timing::{calls, least, race_by_depth, shown, Contender, DEPTHS};
-use celerycrag::raw::Lent;
-use celerycrag::Store;
-use std::ffi::{c_char, c_int, c_void, CString};
+use crate::settling::{first_tenth, free_entries};
+use crate::timing::{calls, least, nanoseconds, race_by_depth, shown, Contender, DEPTHS};
+use celerycrag::{Filed, Plan, Store};
 use std::hint::black_box;
-use std::mem::transmute;
 
-/// Rounds at each depth of the stack.
-const ROUNDS: usize = 5;
+/// Of the entries asked of a store, at most so many, evenly spaced.
+const PART: usize = 256;
 
-extern "C" {
-    fn dlopen(file: *const c_char, mode: c_int) -> *mut c_void;
-    fn dlsym(object: *mut c_void, name: *const c_char) -> *mut c_void;
-}
-/// All names are resolved at once; none is lent to the rest of the process.
-const RTLD_NOW: c_int = 2;
-
-/// `celery_test`, as `include/celerycrag.h` has it.
-#[rustfmt::skip]
-type CeleryTest = unsafe extern "C" fn(
-    usize, usize, usize, usize, usize,
-    *const u8, usize, *const u8, usize, *const u8, usize, *const u8, usize,
-    *const u8, usize,
-) -> u8;
-
-/// The store test of a build.
-struct Build(CeleryTest);
-
-impl Build {
-    /// Opens the shared object that the environment variable names, if any.
-    fn open(variable: &str) -> Option<Build> {
-        let name = CString::new(std::env::var(variable).ok()?).expect("a path");
-        // SAFETY: the C library's functions, lent texts that end in 0. What the
-        // object has under this name is a build of the same header.
-        unsafe {
-            let object = dlopen(name.as_ptr(), RTLD_NOW);
-            assert!(!object.is_null(), "{name:?} cannot be opened");
-            let test = dlsym(object, c"celery_test".as_ptr());
-            assert!(!test.is_null(), "{name:?} has no celery_test");
-            Some(Build(transmute::<*mut c_void, CeleryTest>(test)))
-        }
-    }
-
-    fn test(&self, plan: Lent, store: &[u8]) -> u8 {
-        let Lent { p, s, n, m, t, .. } = plan;
-        // SAFETY: every pointer goes with the length of its own slice, which is
-        // all that the header asks; see `raw`.
-        unsafe {
-            self.0(
-                p,
-                s,
-                n,
-                m,
-                t,
-                plan.radices.as_ptr(),
-                plan.radices.len(),
-                plan.weights.as_ptr(),
-                plan.weights.len(),
-                plan.tables.as_ptr(),
-                plan.tables.len(),
-                plan.d.as_ptr(),
-                plan.d.len(),
-                store.as_ptr(),
-                store.len(),
-            )
-        }
-    }
-
-    /// The test of this store, again and again.
-    fn contender<'a>(&'a self, store: &'a Store) -> Contender<'a> {
-        let (plan, bytes) = (store.plan(), store.as_bytes());
-        assert_eq!(self.test(plan.lent(), bytes), 0, "a store of filings");
-        calls(1, || {
-            black_box(self.test(plan.lent(), black_box(bytes)));
-        })
+/// Rounds at each depth of the stack for a plan of so many entries.
+fn rounds(entries: usize) -> usize {
+    if entries <= PART {
+        5
+    } else {
+        2
     }
 }
 
 /// The build before, and the library.
 pub struct Builds([Build; 2]);
+
+/// What is timed: its name, how many entries the store was made of, and the
+/// contenders, the build before first.
+type Race<'a> = (&'static str, usize, Vec<Contender<'a>>);
+
+/// Of these, at most PART, evenly spaced.
+fn part(entries: Vec<usize>) -> Vec<usize> {
+    let every = entries.len().div_ceil(PART).max(1);
+    entries.into_iter().step_by(every).collect()
+}
 
 impl Builds {
     /// Both, where there is one before.
@@ -93,46 +41,170 @@ impl Builds {
         Some(Builds([before, library.expect("CELERYCRAG_LIBRARY")]))
     }
 
-    /// The lines of a plan: on its empty store, on that of the first tenth of
-    /// the table, and on that of the whole table.
-    pub fn lines(&self, case: &Case, full: &Store) -> [String; 3] {
+    /// The lines of a plan, given the store of its whole table.
+    pub fn lines(&self, case: &Case, full: &Store) -> Vec<String> {
         let (tenth, filed) = first_tenth(case);
-        let stores = [
-            (0, &Store::new(&case.plan)),
-            (filed, &tenth),
-            (case.values.len(), full),
+        let empty = Store::new(&case.plan);
+        let all = case.values.len();
+        let free = part(
+            free_entries(&tenth)
+                .into_iter()
+                .map(|(entry, _)| entry)
+                .collect(),
+        );
+        let every = part((0..all).collect());
+        let new = new_entries(case);
+        let races = [
+            ("test", 0, self.test(&empty)),
+            ("test", filed, self.test(&tenth)),
+            ("test", all, self.test(full)),
+            ("coefficients", all, self.coefficients(full)),
+            ("settle, free", filed, self.settle(&tenth, &free)),
+            ("settle, forced", all, self.settle(full, &every)),
+            ("file, new", 0, self.file_new(case, &new, full)),
+            ("file, implied", all, self.file_implied(case, &every, full)),
         ];
-        stores.map(|(filed, store)| self.line(filed, store))
+        races.map(|race| line(&case.plan, rounds(all), race)).into()
     }
 
-    fn line(&self, filed: usize, store: &Store) -> String {
-        let contenders = self.0.iter().map(|build| build.contender(store)).collect();
-        let by_depth = race_by_depth(ROUNDS * DEPTHS, contenders);
-        let pair = |of: fn([f64; DEPTHS]) -> f64| {
-            let (before, library) = (of(by_depth[0]), of(by_depth[1]));
-            let times = library / before;
-            format!("{} | {} | {times:.2}", shown(before), shown(library))
-        };
-        let mean = |depths: [f64; DEPTHS]| depths.iter().sum::<f64>() / DEPTHS as f64;
+    /// The test of a store.
+    fn test<'a>(&'a self, store: &'a Store) -> Vec<Contender<'a>> {
         let plan = store.plan();
-        format!(
-            "| {} | {} | {filed} | {} | {} |",
-            plan.columns(),
-            plan.shape().p,
-            pair(least),
-            pair(mean)
-        )
+        let contender = |build: &'a Build| {
+            let bytes = build.bytes(store);
+            assert_eq!(build.test(plan.lent(), &bytes), 0, "a store of filings");
+            calls(1, move || {
+                black_box(build.test(plan.lent(), black_box(&bytes)));
+            })
+        };
+        self.0.iter().map(contender).collect()
     }
+
+    /// The coefficients of a store, which have to be the same.
+    fn coefficients<'a>(&'a self, store: &'a Store) -> Vec<Contender<'a>> {
+        let plan = store.plan();
+        let contender = |build: &'a Build| {
+            let (bytes, mut beta) = (build.bytes(store), vec![0; plan.columns()]);
+            assert_eq!(build.coefficients(plan.lent(), &bytes, &mut beta), 0);
+            assert_eq!(store.coefficients().as_ref(), Ok(&beta), "coefficients");
+            calls(1, move || {
+                let beta = black_box(&mut beta[..]);
+                black_box(build.coefficients(plan.lent(), black_box(&bytes), beta));
+            })
+        };
+        self.0.iter().map(contender).collect()
+    }
+
+    /// Settling these entries, each reply the same.
+    fn settle<'a>(&'a self, store: &'a Store, entries: &'a [usize]) -> Vec<Contender<'a>> {
+        let plan = store.plan().lent();
+        let replies = self.0.each_ref().map(|build| {
+            let bytes = build.bytes(store);
+            let reply = |&entry: &usize| build.settle(plan, &bytes, entry);
+            entries.iter().map(reply).collect::<Vec<_>>()
+        });
+        assert!(replies[0] == replies[1], "the replies of two builds");
+        let contender = |build: &'a Build| {
+            let bytes = build.bytes(store);
+            calls(entries.len(), move || {
+                for &entry in entries {
+                    black_box(build.settle(plan, black_box(&bytes), entry));
+                }
+            })
+        };
+        self.0.iter().map(contender).collect()
+    }
+
+    /// Filing these entries into a store that is cleared before the time starts:
+    /// each is new, and the store at the end is this one.
+    fn file_new<'a>(
+        &'a self,
+        case: &'a Case,
+        new: &'a [usize],
+        full: &'a Store,
+    ) -> Vec<Contender<'a>> {
+        let plan = &case.plan;
+        let columns = plan.columns();
+        let contender = |build: &'a Build| -> Contender<'a> {
+            let mut bytes = build.bytes(&Store::new(plan));
+            Box::new(move || {
+                bytes.fill(0);
+                let mut told = (0, 0);
+                let time = nanoseconds(|| {
+                    for &entry in new {
+                        let store = black_box(&mut bytes[..]);
+                        told = build.file(plan.lent(), store, entry, case.values[entry]);
+                        assert!(told.0 == 0 && told.1 < columns, "entry {entry}");
+                    }
+                });
+                assert!(build.store(plan, &bytes) == *full, "the store at the end");
+                time / new.len() as f64
+            })
+        };
+        self.0.iter().map(contender).collect()
+    }
+
+    /// Filing these entries once more, which the store implies.
+    fn file_implied<'a>(
+        &'a self,
+        case: &'a Case,
+        entries: &'a [usize],
+        full: &'a Store,
+    ) -> Vec<Contender<'a>> {
+        let plan = case.plan.lent();
+        let implied = (0, case.plan.columns());
+        let contender = |build: &'a Build| {
+            let mut bytes = build.bytes(full);
+            calls(entries.len(), move || {
+                for &entry in entries {
+                    let store = black_box(&mut bytes[..]);
+                    let told = build.file(plan, store, entry, case.values[entry]);
+                    assert_eq!(told, implied, "entry {entry}");
+                }
+            })
+        };
+        self.0.iter().map(contender).collect()
+    }
+}
+
+/// The entries that are new when the table is filed in order.
+fn new_entries(case: &Case) -> Vec<usize> {
+    let mut store = Store::new(&case.plan);
+    let mut is_new = |&entry: &usize| {
+        let filed = store.file(entry, case.values[entry]);
+        matches!(filed, Ok(Filed::New { .. }))
+    };
+    (0..case.values.len())
+        .filter(|entry| is_new(entry))
+        .collect()
+}
+
+/// A line of the table.
+fn line(plan: &Plan, rounds: usize, (call, filed, contenders): Race) -> String {
+    let by_depth = race_by_depth(rounds * DEPTHS, contenders);
+    let pair = |of: fn([f64; DEPTHS]) -> f64| {
+        let (before, library) = (of(by_depth[0]), of(by_depth[1]));
+        let times = library / before;
+        format!("{} | {} | {times:.2}", shown(before), shown(library))
+    };
+    let mean = |depths: [f64; DEPTHS]| depths.iter().sum::<f64>() / DEPTHS as f64;
+    let (columns, p) = (plan.columns(), plan.shape().p);
+    let (least, mean) = (pair(least), pair(mean));
+    format!("| {call} | {columns} | {p} | {filed} | {least} | {mean} |")
 }
 
 /// What stands above the table.
 pub const INTRODUCTION: &str = "\
-The test of a store, `celery_test`, by the library and by the build before it: on the \
-same bytes, by turns, both linked in the same way. *Filed* is how many entries the \
-store was made of: none, the first tenth of the table, the whole table. *Least* is \
-that of 80 rounds, 5 at each of the 16 depths of the stack, and *mean* that of the \
-least times at each depth, since a process may have its stack anywhere. *Times* is \
-the library's time by that of the build before.
+The calls on a store by the library and by the build before it: on the same store, \
+each build in its own layout, by turns, both linked in the same way. *Filed* is how \
+many entries the store was made of: none, the first tenth of the table, the whole \
+table. *Settle* and *file, implied* are the mean over all entries, or 256 of them, \
+evenly spaced; *settle, free* over those that are free. *File, new* is the mean over \
+the entries that add a row, filed in order into an empty store. Replies, coefficients \
+and stores of the two are compared and are the same. *Least* is that of 80 rounds, 5 \
+at each of the 16 depths of the stack, with more than 256 entries 2 at each, and \
+*mean* that of the least times at each depth, since a process may have its stack \
+anywhere. *Times* is the library's time by that of the build before.
 
-| C | p | filed | least before | least | times | mean before | mean | times |
-|---|---|---|---|---|---|---|---|---|";
+| call | C | p | filed | least before | least | times | mean before | mean | times |
+|---|---|---|---|---|---|---|---|---|---|";

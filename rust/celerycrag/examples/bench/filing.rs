@@ -56,10 +56,8 @@ fn stages(case: &Case) -> (Store, usize, Vec<(usize, Vec<u8>)>) {
 /// Whether FLINT's rows are those of the store that are not zero.
 fn same(store: &Store, rows: &[u8]) -> bool {
     let width = store.plan().columns() + 1;
-    let led = store
-        .as_bytes()
-        .chunks(width)
-        .filter(|row| row.iter().any(|&x| x != 0));
+    let full = store.to_full_bytes().expect("a store of filings");
+    let led = full.chunks(width).filter(|row| row.iter().any(|&x| x != 0));
     led.eq(rows.chunks(width))
 }
 

@@ -1,15 +1,17 @@
 //! Benchmarks: the library beside the reference, filing also beside FLINT, and
-//! the store test beside a build before, where there is one. Prints a page in
-//! Markdown; `run-bench` writes it to docs/BENCHMARKS.md. With a number, only
-//! tables of at most so many entries are timed.
+//! the calls on a store beside those of a build before, where there is one. Prints
+//! a page in Markdown; `run-bench` writes it to docs/BENCHMARKS.md. With a number,
+//! only tables of at most so many entries are timed.
 //!
 //!     cargo run --release --example bench -- 256
 
 mod before;
+mod builds;
 mod calls;
 mod clock;
 mod filing;
 mod flint;
+mod moving;
 mod plans;
 mod reading;
 mod settling;
@@ -52,7 +54,8 @@ times. Plans are \
 random, all digits of radix 2, but for the one of 744 entries: its radices are 12, \
 31 and 2, a month, a day and a bit. The table filed is that of the first link, so \
 that every entry is kept. The reference is `rust/reference`, a naive twin that is made to be \
-read and not to be fast; both check everything they are lent on every call.
+read and not to be fast: it turns every store that it is lent into C rows of C + 1 numbers. \
+Both check everything they are lent on every call.
 
 ## Filing a whole table
 
@@ -107,6 +110,11 @@ fn main() {
         }
     }
 
+    println!("\n## Moving\n\n{}", moving::INTRODUCTION);
+    for line in stores.iter().flat_map(moving::lines) {
+        println!("{line}");
+    }
+
     println!("\n## Settling\n\n{}", settling::INTRODUCTION);
     for line in [settling::free_line, settling::forced_line] {
         for (case, store) in cases.iter().zip(&stores) {
@@ -121,7 +129,7 @@ fn main() {
 
     if let Some(builds) = Builds::open() {
         println!(
-            "\n## The store test beside the landing before\n\n{}",
+            "\n## The calls on a store beside the landing before\n\n{}",
             before::INTRODUCTION
         );
         for (case, store) in cases.iter().zip(&stores) {

@@ -115,15 +115,19 @@ pub fn first_tenth(case: &Case) -> (Store, usize) {
     (store, filed)
 }
 
-/// The entries that are free once the first tenth of the table is filed.
-pub fn free_line(case: &Case, _full: &Store) -> String {
-    let (store, filed) = first_tenth(case);
+/// The entries that are free, each with its column.
+pub fn free_entries(store: &Store) -> Vec<(usize, usize)> {
     let free = |entry| match store.settled(entry).expect("an entry") {
         Settled::Free { column } => Some((entry, column)),
         Settled::Forced { .. } => None,
     };
-    let (entries, columns): (Vec<usize>, Vec<usize>) =
-        (0..case.values.len()).filter_map(free).unzip();
+    (0..store.plan().entries()).filter_map(free).collect()
+}
+
+/// The entries that are free once the first tenth of the table is filed.
+pub fn free_line(case: &Case, _full: &Store) -> String {
+    let (store, filed) = first_tenth(case);
+    let (entries, columns): (Vec<usize>, Vec<usize>) = free_entries(&store).into_iter().unzip();
     assert!(!entries.is_empty(), "no entry is free");
     let mean = columns.iter().sum::<usize>() as f64 / columns.len() as f64;
     line("free", &store, filed, &entries, Some(mean), None)

@@ -1,12 +1,13 @@
 //! What can be wrong with a lot.
 
+use super::layout::{Layout, LAYOUTS};
 use super::listings;
 use super::plans::{product, Owned};
 use super::random::Random;
 use super::twins::Lot;
 
 /// Numbers at and beside the limits, and where narrower types end.
-pub const EDGES: [usize; 42] = [
+pub const EDGES: [usize; 45] = [
     0,
     1,
     2,
@@ -30,6 +31,9 @@ pub const EDGES: [usize; 42] = [
     255,
     256,
     257,
+    359,
+    360,
+    361,
     1_023,
     1_024,
     1_025,
@@ -137,7 +141,7 @@ fn radices(random: &mut Random, plan: &mut Owned) {
 /// A part in another length, the radices apart. The step slices belong to
 /// causes 10 and 11.
 fn length(random: &mut Random, lot: &mut Lot) {
-    match random.below(9) {
+    match random.below(12) {
         0 => relength(random, &mut lot.plan.weights),
         1 => relength(random, &mut lot.plan.tables),
         2 => relength(random, &mut lot.plan.d),
@@ -146,6 +150,9 @@ fn length(random: &mut Random, lot: &mut Lot) {
         5 => relength(random, &mut lot.beta),
         6 => relength(random, &mut lot.digits),
         7 => relength(random, &mut lot.room),
+        8 => relength(random, &mut lot.full),
+        9 => lot.store.resize(lot.full.len(), 0),
+        10 => lot.full.resize(lot.store.len(), 0),
         _ => relength(random, &mut lot.steps),
     }
 }
@@ -177,51 +184,59 @@ fn large_byte(random: &mut Random, lot: &mut Lot) {
     }
 }
 
-/// Damages the store in one of the ways that reduced form forbids; where the
-/// store has no row for it, and in some ways anyway, it may still be reduced.
+/// Damages the store, or the full one, in one of the ways that reduced form
+/// forbids; where it has no row for it, and in some ways anyway, it may still be
+/// reduced.
 fn damage(random: &mut Random, lot: &mut Lot) {
     let p = lot.plan.p;
-    let width = lot.plan.columns_if_small() + 1;
-    let columns = width - 1;
-    let store = &mut lot.store;
-    if store.is_empty() || store.len() != columns * width || p < 3 {
+    let columns = lot.plan.columns_if_small();
+    let layout = random.pick(&LAYOUTS);
+    let store = match layout {
+        Layout::Half => &mut lot.store,
+        Layout::Full => &mut lot.full,
+    };
+    if store.is_empty() || store.len() != layout.length(columns) || p < 3 {
         return;
     }
-    let leads: Vec<usize> = (0..columns).filter(|q| store[q * width + q] != 0).collect();
-    let zeros: Vec<usize> = (0..columns).filter(|q| store[q * width + q] == 0).collect();
+    let mut rows = layout.rows(columns, store);
+    let leads: Vec<usize> = (0..columns).filter(|&q| rows[q][q] != 0).collect();
+    let zeros: Vec<usize> = (0..columns).filter(|&q| rows[q][q] == 0).collect();
     let led = (!leads.is_empty()).then(|| random.pick(&leads));
     let zero = (!zeros.is_empty()).then(|| random.pick(&zeros));
     let nonzero = random.within(1, p.min(256) - 1) as u8;
     let any = random.below(columns);
+    // A column that the row keeps.
+    let kept = random.within(layout.first(any), columns - 1);
     match (random.below(13), led, zero) {
         // A byte not below p, among the coefficients and at the right-hand side.
-        (0, ..) => store[any * width + random.below(columns)] = p.min(255) as u8,
-        (1, ..) => store[any * width + columns] = random.pick(&[p.min(255), 255]) as u8,
+        (0, ..) => rows[any][kept] = p.min(255) as u8,
+        (1, ..) => rows[any][columns] = random.pick(&[p.min(255), 255]) as u8,
         // A lead that is not 1.
-        (2, Some(q), _) => store[q * width + q] = random.within(2, p.min(256) - 1) as u8,
+        (2, Some(q), _) => rows[q][q] = random.within(2, p.min(256) - 1) as u8,
         // A right-hand side without coefficients.
-        (3, _, Some(q)) => store[q * width + columns] = nonzero,
+        (3, _, Some(q)) => rows[q][columns] = nonzero,
         // A coefficient left of the lead's place, and right of it.
-        (4, Some(q), _) if q > 0 => store[q * width + random.below(q)] = nonzero,
+        (4, Some(q), _) if layout.first(q) < q => rows[q][random.below(q)] = nonzero,
         (5, _, Some(q)) if q + 1 < columns => {
-            store[q * width + random.within(q + 1, columns - 1)] = nonzero
+            rows[q][random.within(q + 1, columns - 1)] = nonzero;
         }
         // The lead lost.
-        (6, Some(q), _) => store[q * width + q] = 0,
+        (6, Some(q), _) => rows[q][q] = 0,
         // A second number in a pivot's column.
-        (7, Some(q), _) if any != q => store[any * width + q] = nonzero,
-        // A row in the wrong place, or there twice.
-        (8, Some(q), _) => {
-            for j in 0..width {
-                store.swap(q * width + j, any * width + j);
-            }
-        }
-        (9, Some(q), _) => store.copy_within(q * width..(q + 1) * width, any * width),
+        (7, Some(q), _) if any != q && q >= layout.first(any) => rows[any][q] = nonzero,
+        // A row in the wrong place, or there twice; of what is left of what the
+        // row there keeps, nothing comes along.
+        (8, Some(q), _) => rows.swap(q, any),
+        (9, Some(q), _) => rows[any] = rows[q].clone(),
         // Anything at all.
-        (10, ..) => *store = random.bytes(columns * width, p.min(256)),
-        (11, ..) => *store = random.bytes(columns * width, 256),
-        _ => store[any * width + random.below(width)] = random.below(p.min(256)) as u8,
+        (10, ..) => rows.fill_with(|| random.bytes(columns + 1, p.min(256))),
+        (11, ..) => rows.fill_with(|| random.bytes(columns + 1, 256)),
+        _ => rows[any][kept] = random.below(p.min(256)) as u8,
     }
+    for (q, row) in rows.iter_mut().enumerate() {
+        row[..layout.first(q)].fill(0);
+    }
+    *store = layout.store(&rows);
 }
 
 /// A step list with one fault, which need not be one for every step.

@@ -1,4 +1,4 @@
-//! Random lots for the twelve calls, with nothing wrong and of noise, and random
+//! Random lots for the fourteen calls, with nothing wrong and of noise, and random
 //! entries with values.
 
 use super::faults::EDGES;
@@ -18,14 +18,8 @@ pub fn lot(random: &mut Random, most_columns: usize) -> Lot {
 /// lists of steps are no program of it, which only reading back refuses.
 pub fn lot_of(random: &mut Random, plan: Owned) -> Lot {
     let plan = plan.drawn(random);
-    let store = match random.below(4) {
-        0 => plan.empty_store(),
-        1 => filed(random, &plan),
-        _ => {
-            let one_row_in = random.pick(&[1, 2, 2, 5]);
-            reduced(random, &plan, one_row_in)
-        }
-    };
+    let store = some_store(random, &plan);
+    let full = some_store(random, &plan);
     let beta = residues(random, plan.columns(), plan.p);
     let slack = random.pick(&[0, 0, 1, 4, 50]);
     let room: Vec<u16> = (0..4 * plan.step_count() + slack)
@@ -43,12 +37,25 @@ pub fn lot_of(random: &mut Random, plan: Owned) -> Lot {
         value: random.below(plan.s),
         row: random.bytes(plan.columns(), 256),
         store,
+        full: plan.widened(&full),
         beta,
         room,
         steps,
         digits: plan.digits(random.below(plan.entries())),
         text: listing(&plan, &kept),
         plan,
+    }
+}
+
+/// A store in reduced form: empty, after a few filings, or any.
+fn some_store(random: &mut Random, plan: &Owned) -> Vec<u8> {
+    match random.below(4) {
+        0 => plan.empty_store(),
+        1 => filed(random, plan),
+        _ => {
+            let one_row_in = random.pick(&[1, 2, 2, 5]);
+            reduced(random, plan, one_row_in)
+        }
     }
 }
 
@@ -132,7 +139,8 @@ pub fn noise(random: &mut Random) -> Lot {
         lot.row = any(random, 13);
         lot.beta = any(random, 13);
         lot.digits = any(random, 4);
-        lot.store = any(random, 160);
+        lot.store = any(random, 90);
+        lot.full = any(random, 160);
     }
     let numbers = [
         &mut lot.plan.p,

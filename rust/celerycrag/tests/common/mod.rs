@@ -5,8 +5,10 @@
 
 pub mod faults;
 pub mod kept;
+pub mod layout;
 pub mod listings;
 pub mod lots;
+pub mod old;
 pub mod plans;
 pub mod program;
 pub mod random;

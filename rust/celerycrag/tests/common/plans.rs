@@ -1,5 +1,6 @@
 //! Plans that own their parts, checked or not, and random ones.
 
+use super::layout::Layout;
 use super::random::Random;
 use celerycrag::raw::Lent;
 
@@ -129,7 +130,7 @@ impl Owned {
     }
 
     pub fn empty_store(&self) -> Vec<u8> {
-        vec![0; self.columns() * (self.columns() + 1)]
+        vec![0; Layout::Half.length(self.columns())]
     }
 
     /// The digits of an entry, found from the left: each is what the product
@@ -250,14 +251,18 @@ pub fn reduced(random: &mut Random, plan: &Owned, one_row_in: usize) -> Vec<u8> 
 pub fn reduced_with(random: &mut Random, plan: &Owned, led: &[bool]) -> Vec<u8> {
     let columns = plan.columns();
     let mut store = plan.empty_store();
-    for (q, row) in store.chunks_mut(columns + 1).enumerate() {
+    let mut rest = &mut store[..];
+    for q in 0..columns {
+        // Its columns from q on, and the right-hand side.
+        let (row, behind) = rest.split_at_mut(columns + 1 - q);
+        rest = behind;
         if !led[q] {
             continue;
         }
-        row[q] = 1;
+        row[0] = 1;
         for j in q + 1..=columns {
             if j == columns || !led[j] {
-                row[j] = random.below(plan.p) as u8;
+                row[j - q] = random.below(plan.p) as u8;
             }
         }
     }

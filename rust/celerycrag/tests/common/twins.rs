@@ -15,14 +15,18 @@ const OLD_BYTE: u8 = 0xFE;
 /// The elements beside a slice that is lent to be written.
 const MARGIN: usize = 37;
 
-/// Everything that the twelve calls take.
+/// Everything that the fourteen calls take.
 #[derive(Clone, Debug)]
 pub struct Lot {
     pub plan: Owned,
     pub entry: usize,
     pub value: usize,
     pub row: Vec<u8>,
+    /// What the calls on a store take, and the target of one move.
     pub store: Vec<u8>,
+    /// A store in the full layout: what that move takes, and the target of the
+    /// other.
+    pub full: Vec<u8>,
     pub beta: Vec<u8>,
     /// What the writer is lent.
     pub room: Vec<u16>,
@@ -162,6 +166,47 @@ pub fn settle(plan: &Owned, store: &[u8], entry: usize, tally: &mut Tally) -> Re
     }
 }
 
+/// A move, by library and reference.
+type Move = fn(raw::Lent, &[u8], &mut [u8]) -> u8;
+
+/// Makes a move on `target`, and leaves there what both made of it. The reference
+/// has answered already, and left its own target.
+fn moved(
+    call: (&'static str, Move),
+    plan: &Owned,
+    source: &[u8],
+    target: &mut Vec<u8>,
+    expected: (u32, Vec<u8>),
+    tally: &mut Tally,
+) -> u8 {
+    let (name, library) = call;
+    let (source_after, (after, answer)) = fenced(source, 0xA5, |source| {
+        fenced(target, 0xA5, |target| library(plan.lent(), source, target))
+    });
+    assert!(source_after == source, "{name} wrote to its source");
+    agreed(name, answer, expected.0, tally);
+    assert!(after == expected.1, "the target of {name}");
+    assert!(answer == 0 || after == *target, "{name} refused, and wrote");
+    *target = after;
+    answer
+}
+
+/// Moves a full store to `half`.
+pub fn to_half(plan: &Owned, full: &[u8], half: &mut Vec<u8>, tally: &mut Tally) -> u8 {
+    let mut expected = half.clone();
+    let number = by_reference!(to_half, plan, full, &mut expected);
+    let call: (_, Move) = ("to_half", raw::to_half);
+    moved(call, plan, full, half, (number, expected), tally)
+}
+
+/// Moves a store to `full`.
+pub fn to_full(plan: &Owned, half: &[u8], full: &mut Vec<u8>, tally: &mut Tally) -> u8 {
+    let mut expected = full.clone();
+    let number = by_reference!(to_full, plan, half, &mut expected);
+    let call: (_, Move) = ("to_full", raw::to_full);
+    moved(call, plan, half, full, (number, expected), tally)
+}
+
 /// Makes the checking call and the writing one, which have to agree. An
 /// accepted writing gives the numbers written.
 pub fn write(plan: &Owned, beta: &[u8], room: &[u16], tally: &mut Tally) -> Result<Vec<u16>, u8> {
@@ -285,7 +330,7 @@ pub fn listing(plan: &Owned, beta: &[u8]) -> Vec<u8> {
     listing.expect("a plan and its β").into_bytes()
 }
 
-/// All twelve calls on one lot, which stays as it is.
+/// All fourteen calls on one lot, which stays as it is.
 pub fn all(lot: &Lot, tally: &mut Tally) {
     let plan = &lot.plan;
     check(plan, tally);
@@ -294,6 +339,8 @@ pub fn all(lot: &Lot, tally: &mut Tally) {
     let _ = file(plan, &mut lot.store.clone(), lot.entry, lot.value, tally);
     coefficients(plan, &lot.store, &mut lot.beta.clone(), tally);
     let _ = settle(plan, &lot.store, lot.entry, tally);
+    to_half(plan, &lot.full, &mut lot.store.clone(), tally);
+    to_full(plan, &lot.store, &mut lot.full.clone(), tally);
     let _ = write(plan, &lot.beta, &lot.room, tally);
     let _ = run(plan, &lot.steps, &lot.digits, tally);
     let _ = worst_norm(plan, &lot.beta, tally);

@@ -19,6 +19,7 @@ struct Cases {
     d: Vec<u8>,
     row: Vec<u8>,
     store: Vec<u8>,
+    full: Vec<u8>,
     beta: Vec<u8>,
     digits: Vec<u8>,
     steps: Vec<u16>,
@@ -103,6 +104,7 @@ impl Cases {
             ("d", _) => self.d = bytes(),
             ("row", _) => self.row = bytes(),
             ("store", _) => self.store = bytes(),
+            ("full", _) => self.full = bytes(),
             ("beta", _) => self.beta = bytes(),
             ("digits", _) => self.digits = bytes(),
             ("steps", _) => self.steps = numbers.iter().map(|number| *number as u16).collect(),
@@ -112,6 +114,8 @@ impl Cases {
             ("store::file", [entry, value]) => self.file(*entry, *value),
             ("store::coefficients", []) => self.coefficients(),
             ("store::settle", [entry]) => self.settle(*entry),
+            ("store::to_half", []) => self.move_to_half(),
+            ("store::to_full", []) => self.move_to_full(),
             ("program::check_writing", []) => self.say("number", self.check_writing()),
             ("program::write_into", []) => self.write_into(),
             ("program::write", []) => self.write(),
@@ -157,6 +161,20 @@ impl Cases {
             Settled::Free(column) => self.say("free", column),
             Settled::Refused(number) => self.say("refused", number),
         }
+    }
+
+    fn move_to_half(&mut self) {
+        let mut store = self.store.clone();
+        self.say("number", call!(to_half, self, &self.full, &mut store));
+        self.whole("store", &store);
+        self.store = store;
+    }
+
+    fn move_to_full(&mut self) {
+        let mut full = self.full.clone();
+        self.say("number", call!(to_full, self, &self.store, &mut full));
+        self.whole("full", &full);
+        self.full = full;
     }
 
     fn check_writing(&self) -> u32 {

@@ -96,7 +96,56 @@ impl Owned {
     }
 
     pub fn empty_store(&self) -> Vec<u8> {
+        vec![0; self.columns() * (self.columns() + 1) / 2 + self.columns()]
+    }
+
+    /// The empty store in the layout of 01.
+    pub fn empty_full(&self) -> Vec<u8> {
         vec![0; self.columns() * (self.columns() + 1)]
+    }
+
+    /// The rows of the store that a new one stands for, each with its right-hand
+    /// side: found without the reference, from where row q begins, which is at
+    /// q(C+1) - q(q-1)/2.
+    pub fn rows(&self, store: &[u8]) -> Vec<Vec<u8>> {
+        let columns = self.columns();
+        let begin = |q: usize| q * (columns + 1) - q * q.saturating_sub(1) / 2;
+        let row = |q: usize| [&vec![0; q], &store[begin(q)..begin(q + 1)]].concat();
+        (0..columns).map(row).collect()
+    }
+
+    /// The new store of these rows, which have zeros left of the diagonal.
+    pub fn store(&self, rows: &[Vec<u8>]) -> Vec<u8> {
+        let kept = rows.iter().enumerate().map(|(q, row)| {
+            assert!(row[..q].iter().all(|&x| x == 0), "left of the diagonal");
+            &row[q..]
+        });
+        kept.collect::<Vec<&[u8]>>().concat()
+    }
+
+    /// The store moved to the new layout. The target has these bytes before; a
+    /// refused move leaves them.
+    pub fn to_half(&self, full: &[u8], target: &[u8]) -> Result<Vec<u8>, u32> {
+        let mut half = target.to_vec();
+        match call!(to_half, self, full, &mut half) {
+            0 => Ok(half),
+            number => {
+                assert_eq!(half, target, "the target of a refused move");
+                Err(number)
+            }
+        }
+    }
+
+    /// The same to the old layout.
+    pub fn to_full(&self, half: &[u8], target: &[u8]) -> Result<Vec<u8>, u32> {
+        let mut full = target.to_vec();
+        match call!(to_full, self, half, &mut full) {
+            0 => Ok(full),
+            number => {
+                assert_eq!(full, target, "the target of a refused move");
+                Err(number)
+            }
+        }
     }
 
     pub fn check(&self) -> u32 {

@@ -27,25 +27,48 @@ store-size-requires-2 : tie.Need-store-size-requires-2
 store-size-requires-2 c κs = search needs
 
 returns : tie.Need-returns
-returns c = rw (c .before .before .before .own3 .given .1, sym (c .before .before .before .before .before .columns .ensures), sym (c .before .store-size2 .ensures), ne-eqb _ _ (c .if1 .taken))
+returns c =
+    let row = c .before .before .before in
+    rw (row .own3 .given .1, sym (row .before .before .columns .ensures), sym (c .before .store-size2 .ensures), ne-eqb _ _ (c .if1 .taken))
 
 enum-known-own-4 : tie.Need-enum-known-own-4
 enum-known-own-4 c = search needs
 
+store-size-requires-3 : tie.Need-store-size-requires-3
+store-size-requires-3 c κs = search needs
+
 returns-2 : tie.Need-returns-2
-returns-2 c = search needs
+returns-2 c =
+    let both = c .before .before .before in
+    rw (both .own4 .given .1, sym (both .before .before .columns .ensures), sym (c .before .store-size3 .ensures), ne-eqb _ _ (c .if2 .taken))
+
+full-size-requires : tie.Need-full-size-requires
+full-size-requires c κs = search needs
+
+enum-known-own-5 : tie.Need-enum-known-own-5
+enum-known-own-5 c = search needs
 
 returns-3 : tie.Need-returns-3
-returns-3 c = rw (c .before .own .given .1, sym (c .before .before .before .columns .ensures))
+returns-3 c = search needs
 
 returns-4 : tie.Need-returns-4
-returns-4 c = rw (c .before .before .own2 .given .1, sym (c .before .before .before .before .columns .ensures), sym (c .store-size .ensures))
+returns-4 c = rw (c .before .own .given .1, sym (c .before .before .before .columns .ensures))
 
 returns-5 : tie.Need-returns-5
-returns-5 c = rw (c .before .before .before .own3 .given .1, sym (c .before .before .before .before .before .columns .ensures), sym (c .before .store-size2 .ensures), eq-eqb _ _ (c .if1 .left))
+returns-5 c = rw (c .before .before .own2 .given .1, sym (c .before .before .before .before .columns .ensures), sym (c .store-size .ensures))
 
 returns-6 : tie.Need-returns-6
-returns-6 c = rw (c .before .before .own4 .given .1)
+returns-6 c =
+    let row = c .before .before .before in
+    rw (row .own3 .given .1, sym (row .before .before .columns .ensures), sym (c .before .store-size2 .ensures), eq-eqb _ _ (c .if1 .left))
+
+returns-7 : tie.Need-returns-7
+returns-7 c =
+    let both = c .before .before .before .before in
+    rw (both .own4 .given .1, sym (both .before .before .columns .ensures), sym (c .before .before .store-size3 .ensures), eq-eqb _ _ (c .before .if2 .left), sym (c .full-size .ensures))
+
+returns-8 : tie.Need-returns-8
+returns-8 c = rw (c .before .before .own5 .given .1)
 
 pub own-fits-spec : {M : Type 1} → statement M
 own-fits-spec =
@@ -60,8 +83,13 @@ own-fits-spec =
     store-size-requires-2
     returns
     enum-known-own-4
+    store-size-requires-3
     returns-2
+    full-size-requires
+    enum-known-own-5
     returns-3
     returns-4
     returns-5
-    returns-6)
+    returns-6
+    returns-7
+    returns-8)

@@ -88,10 +88,10 @@ returns c =
     (sym (a .rest _ ∙ rw (sym (is-written .ensures .0) ∙ not-true (is-written .result) (c .if1 .taken))), refl)
 
 array-share-prefix-found : tie.Need-array-share-prefix-found
-array-share-prefix-found c = front-room _ (left c) (sized c .columns .result) (left-size c)
+array-share-prefix-found c = front-room _ (left (c .before)) (sized (c .before) .columns .result) (left-size (c .before))
 
 slice-aggregate-copy : tie.Need-slice-aggregate-copy
-slice-aggregate-copy c = front-length _ (left (c .before)) (sized (c .before) .columns .result) (left-size (c .before))
+slice-aggregate-copy c = front-length _ (left (c .before .before)) (sized (c .before .before) .columns .result) (left-size (c .before .before))
 
 copy-requires : tie.Need-copy-requires
 copy-requires c κs =

@@ -229,12 +229,12 @@ returns-3 c =
 
 array-share-prefix-found-2 : tie.Need-array-share-prefix-found-2
 array-share-prefix-found-2 c =
-    let r = written (c .before .before .before .before) in
+    let r = written (c .before .before .before .before .before) in
     front-room _ (left r) (size r) (left-size r)
 
 slice-aggregate-copy : tie.Need-slice-aggregate-copy
 slice-aggregate-copy c =
-    let r = written (c .before .before .before .before .before) in
+    let r = written (c .before .before .before .before .before .before) in
     front-length _ (left r) (size r) (left-size r)
 
 copy-requires : tie.Need-copy-requires

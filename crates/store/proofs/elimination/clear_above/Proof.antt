@@ -59,7 +59,7 @@ clear-row-requires c κs =
     let turn = c .before .before in
     let s = start turn in
     let pos : 0 < s .args .p = omega (arith, s .pre .0 .modulus .0) in
-    let tail = tail-length (row turn) (le-of-lt (s .pre .1 .1 .0)) in (
+    let tail = tail-length (row turn) (le-of-lt (turn .loop-test .taken)) (le-of-lt (s .pre .1 .1 .0)) in (
       s .pre .0 .modulus,
       (
         (cut-length (s .pre .0 .reduced) (s .pre .1 .0) (s .pre .1 .1 .0) ∙ sym tail, omega (arith, tail)),
@@ -69,6 +69,12 @@ clear-row-requires c κs =
         ),
       ),
     )
+
+sub-begin : tie.Need-sub-begin Inv-loop μ-loop
+sub-begin c = omega arith
+
+add-begin : tie.Need-add-begin Inv-loop μ-loop
+add-begin c = omega (arith, row-fits (row (c .before .before .before .before .before)))
 
 add-r : tie.Need-add-r Inv-loop μ-loop
 add-r c = omega arith
@@ -107,6 +113,8 @@ clear-above-spec =
     part-clear-row-start-2
     part-clear-row-end-2
     clear-row-requires
+    sub-begin
+    add-begin
     add-r
     loop-less
     loop-again

@@ -2,7 +2,7 @@
 -- Assumes nothing.
 use mathlib.Core.Path.{_≡_, sym, ap, _∙_}
 use Prim.Native.Nat.{ℕ, _+_, _-_, _*_, _<_}
-use native.Mathlib.Nat.{le-of-lt, mul-le-mul}
+use native.Mathlib.Nat.{le-refl, le-of-lt, mul-le-mul}
 use native.Mathlib.Omega.{arith}
 use lib.ListN.{length}
 use Rattle.lists.specs.Places.{tab}
@@ -125,7 +125,7 @@ accumulate-short-requires c κs =
     let s = start turn in
     let w = held roomy in
     let l = turn .loop-test .taken in (
-      tail-length (row turn) (le-of-lt l) ∙ sym (part-length _ (turn .before .loop .q) (s .args .c + 1 - turn .before .loop .q) (omega (arith, w .0 .narrow))),
+      tail-length (row turn) (le-refl _) (le-of-lt l) ∙ sym (part-length _ (turn .before .loop .q) (s .args .c + 1 - turn .before .loop .q) (omega (arith, w .0 .narrow))),
       held-fits (w .0) (s .pre .0) (s .pre .1 .0) l _ (c .before .before .factor .ensures) (w .1),
     )
 
@@ -133,6 +133,12 @@ sub-left : tie.Need-sub-left Inv-loop μ-loop
 sub-left c =
     let roomy = c .before .before .before .before .before .before .before .before .before .before .before .before in
     omega (arith, held roomy .1)
+
+sub-begin : tie.Need-sub-begin Inv-loop μ-loop
+sub-begin c = omega arith
+
+add-begin : tie.Need-add-begin Inv-loop μ-loop
+add-begin c = omega (arith, row-fits (row (c .before .before .before .before .before .before .before .before .before .before .before .before .before .before .before)))
 
 add-q : tie.Need-add-q Inv-loop μ-loop
 add-q c = omega arith
@@ -205,6 +211,8 @@ defer-short-spec =
     part-accumulate-short-end-2
     accumulate-short-requires
     sub-left
+    sub-begin
+    add-begin
     add-q
     loop-less
     loop-again

@@ -84,11 +84,17 @@ accumulate-requires-2 c κs =
     let turn = c .before .before .before .before .before in
     let s = start turn in
     let loop = turn .before .loop in (
-      tail-length (row turn) (le-of-lt (turn .loop-test .taken))
+      tail-length (row turn) (le-refl _) (le-of-lt (turn .loop-test .taken))
           ∙ sym (part-length (loop .acc) (loop .q) (s .args .c + 1 - loop .q) (omega (arith, loop .inv .1))),
       part-each (λ (x : ℕ). x + 65025 < 4294967296) (loop .acc) (loop .q) (s .args .c + 1 - loop .q) (omega arith)
           (subtracted-room (s .pre .0) (s .pre .1 .0) (loop .inv .0) 65025 (omega arith) (loop .acc) (loop .inv .1) (λ j k. le-refl (at (loop .acc) j))),
     )
+
+sub-begin : tie.Need-sub-begin Inv-loop μ-loop
+sub-begin c = omega arith
+
+add-begin : tie.Need-add-begin Inv-loop μ-loop
+add-begin c = omega (arith, row-fits (row (c .before .before .before .before .before .before .before .before)))
 
 add-q : tie.Need-add-q Inv-loop μ-loop
 add-q c = omega arith
@@ -138,6 +144,8 @@ defer-wide-spec =
     part-accumulate-start-2
     part-accumulate-end-2
     accumulate-requires-2
+    sub-begin
+    add-begin
     add-q
     loop-less
     loop-again

@@ -3,7 +3,7 @@
 use mathlib.Core.Path.{sym, ap, subst⁻¹, _∙_}
 use mathlib.Core.List.{List}
 use Prim.Native.Nat.{ℕ, _+_, _≤_, _<_}
-use native.Mathlib.Nat.{le-of-lt, mod-lt}
+use native.Mathlib.Nat.{le-refl, le-of-lt, mod-lt}
 use native.Mathlib.Omega.{arith}
 use lib.ListN.{length}
 use lib.Seq.{length-take-le}
@@ -13,7 +13,7 @@ use Rattle.field.specs.Residues.{inverse}
 use Rattle.store.specs.Elimination.{normal}
 use Rattle.store.specs.Stages.{Line}
 use Rattle.store.proofs.Bytes.{flat-length}
-use Rattle.store.proofs.Residuals.{normal-small, normal-zero}
+use Rattle.store.proofs.Residuals.{normal-small}
 use Rattle.store.proofs.Fronts.{front-list, front-length, front-room, front-cut, front-residues}
 use Rattle.store.proofs.Pasting.{RowAt, row-fits, tail-length}
 use Rattle.store.proofs.Clearing.{pivot-line, pivot-at, pivot-before, row-inserted}
@@ -84,7 +84,7 @@ clear-above-requires c κs =
     let s = start r in
     let column = s .pre .1 .1 .0 in
     let e = front-list _ (r .set-multiple .last .0) _ (line r .places) in
-    let before = pivot-before _ (s .pre .1 .0) (positive s) (r .set-multiple .ensures) _ (le-of-lt column) (s .pre .1 .1 .1 .0) in
+    let before = pivot-before _ (s .pre .1 .0) (positive s) (r .set-multiple .ensures) _ (le-of-lt column) (s .pre .1 .1 .1) in
     (s .pre .0, (subst⁻¹ (Line (s .args .p) (s .args .c)) e (line r), (column, λ j l. ap (λ (xs : List ℕ). at xs j) e ∙ before j l)))
 
 add-a : tie.Need-add-a
@@ -119,7 +119,7 @@ set-multiple-requires-2 c κs =
     let r = cleared .before .before .before .before in
     let s = start r in
     let column = le-of-lt (s .pre .1 .1 .0) in
-    (s .pre .0 .modulus, (front-cut (line r) _ column ∙ sym (tail-length (row cleared) column), (front-residues (line r) _ column (positive s), positive s)))
+    (s .pre .0 .modulus, (front-cut (line r) _ column ∙ sym (tail-length (row cleared) (le-refl _) column), (front-residues (line r) _ column (positive s), positive s)))
 
 same-length : tie.Need-same-length
 same-length c = search needs
@@ -130,11 +130,9 @@ returns c =
     let r = cleared .before .before .before .before in
     let s = start r in
     let k = s .args .k in
-    let pre = s .pre .1 .1 in
     let normal-places = pivot-at _ (s .pre .1 .0) (positive s) (r .set-multiple .ensures) k (r .before .before .inverse .ensures) in
-    row-inserted _ _ _ (normal (s .args .p) (at (s .args .res .now)) k) k (s .pre .0 .reduced) (pre .0) (pre .1 .1)
+    row-inserted _ _ _ (normal (s .args .p) (at (s .args .res .now)) k) k (s .pre .0 .reduced) (s .pre .1 .1 .0)
     (λ j. normal-small (s .args .p) (at (s .args .res .now)) k j (positive s))
-    (λ j b. normal-zero (s .args .p) (at (s .args .res .now)) k j (positive s) (pre .1 .0 j b))
     _ _ _ _ (cleared .clear-above .ensures .0) (front-room _ (r .set-multiple .last .0) _ (line r .places))
     (λ j b. ap (λ (xs : List ℕ). at xs j) (front-list _ (r .set-multiple .last .0) _ (line r .places)) ∙ normal-places j b)
     (cleared .clear-above .ensures .1) (c .before .before .set-multiple2 .ensures)

@@ -9,35 +9,40 @@ use native.Mathlib.Omega.{arith}
 use Rattle.lists.specs.Places.{at}
 use Rattle.store.specs.Elimination.{rowStart, cells}
 use Rattle.store.proofs.RowStarts.{start-is, start-next, row-end}
+use Rattle.store.proofs.Bytes.{cells-right}
 use Rattle.store.proofs.settling.next_free.Statement.{statement}
 use Rattle.store.proofs.settling.next_free.Tie as tie
 
 abbrev Inv-loop : tie.InvT-loop
-Inv-loop store from c width a₀ q₀ a q =
-    (from ≤ q) × (q ≤ c) × (a ≡ rowStart c q + q) × ((j : ℕ) → from ≤ j → j < q → cells c store j j ≢ 0)
+Inv-loop store from c a₀ q₀ a q = (from ≤ q) × (q ≤ c) × (a ≡ rowStart c q + q) × ((j : ℕ) → from ≤ j → j < q → cells c store j j ≢ 0)
 
 abbrev μ-loop : tie.MeasureT-loop
-μ-loop store from c width a₀ q₀ a q = c - q
+μ-loop store from c a₀ q₀ a q = c - q
 
 -- where the row of `from` begins
-few : (c : tie.Start Inv-loop μ-loop) → c .args .from * (c .args .c + 1) ≤ 1024 * 1025
+few : (c : tie.Start Inv-loop μ-loop) → c .args .from * (2 * c .args .c + 1 - c .args .from) ≤ 1024 * 2049
 few c =
     let a : c .args .from ≤ 1024 = omega arith in
-    let b : c .args .c + 1 ≤ 1025 = omega arith in
+    let b : 2 * c .args .c + 1 - c .args .from ≤ 2049 = omega arith in
     mul-le-mul a b
 
-add-width : tie.Need-add-width Inv-loop μ-loop
-add-width c = omega arith
-
 mul-a : tie.Need-mul-a Inv-loop μ-loop
-mul-a c = omega (arith, few c)
+mul-a c = omega arith
 
 add-a : tie.Need-add-a Inv-loop μ-loop
-add-a c = omega (arith, few c)
+add-a c = omega arith
+
+sub-a : tie.Need-sub-a Inv-loop μ-loop
+sub-a c = omega arith
+
+mul-a-2 : tie.Need-mul-a-2 Inv-loop μ-loop
+mul-a-2 c = omega (arith, few c)
+
+add-a-2 : tie.Need-add-a-2 Inv-loop μ-loop
+add-a-2 c = omega (arith, few c)
 
 loop-holds : tie.Need-loop-holds Inv-loop μ-loop
-loop-holds c =
-    (le-refl (c .args .from), c .pre .0 .0, ap (λ (n : ℕ). n + c .args .from) (sym (start-is (c .args .c) (c .args .from))), λ j l k. absurd (omega arith))
+loop-holds c = (le-refl (c .args .from), c .pre .0 .0, ap (λ (n : ℕ). n + c .args .from) (sym (start-is (c .args .c) (c .args .from) (c .pre .0 .0))), λ j l k. absurd (omega arith))
 
 shared-slice-read-if1 : tie.Need-shared-slice-read-if1 Inv-loop μ-loop
 shared-slice-read-if1 c =
@@ -49,18 +54,24 @@ diagonal : (c : tie.After-shared-slice-known Inv-loop μ-loop) →
     let loop = c .before .before .loop in
     let args = c .before .before .before .args in
     at (args .store .now) (loop .a) ≡ cells (args .c) (args .store .now) (loop .q) (loop .q)
-diagonal c = ap (at (c .before .before .before .args .store .now)) (c .before .before .loop .inv .2)
+diagonal c =
+    let loop = c .before .before .loop in
+    let args = c .before .before .before .args in
+    ap (at (args .store .now)) (loop .inv .2) ∙ sym (cells-right (args .c) (args .store .now) (loop .q) (loop .q) (le-refl (loop .q)))
 
 returns : tie.Need-returns Inv-loop μ-loop
 returns c =
     let loop = c .before .before .before .loop in
     record { low = loop .inv .0; high = loop .inv .1; passed = loop .inv .3; stopped = λ l. sym (diagonal (c .before)) ∙ c .if1 .taken }
 
-add-a-2 : tie.Need-add-a-2 Inv-loop μ-loop
-add-a-2 c = omega arith
-
 add-a-3 : tie.Need-add-a-3 Inv-loop μ-loop
-add-a-3 c =
+add-a-3 c = omega arith
+
+sub-a-2 : tie.Need-sub-a-2 Inv-loop μ-loop
+sub-a-2 c = omega arith
+
+add-a-4 : tie.Need-add-a-4 Inv-loop μ-loop
+add-a-4 c =
     let args = c .before .before .before .before .args in
     omega (arith, row-end (args .c) (c .before .before .before .loop .q) (c .before .before .loop-test .taken))
 
@@ -94,14 +105,17 @@ next-free-spec =
     (tie.spec
     Inv-loop
     μ-loop
-    add-width
     mul-a
     add-a
+    sub-a
+    mul-a-2
+    add-a-2
     loop-holds
     shared-slice-read-if1
     returns
-    add-a-2
     add-a-3
+    sub-a-2
+    add-a-4
     add-q
     loop-less
     loop-again

@@ -1,6 +1,6 @@
 -- `store::settling::residue` meets its contract: the sum is that of the first i rows (`Freeing`), with a at column q of row i. Assumes
 -- nothing.
-use mathlib.Core.Path.{_≡_, ap, ap₂, _∙_}
+use mathlib.Core.Path.{_≡_, sym, ap, ap₂, _∙_}
 use Prim.Native.Nat.{ℕ, _+_, _-_, _*_, _%_, _≤_, _<_}
 use native.Mathlib.Nat.{le-antisymm, mod-lt}
 use native.Mathlib.Omega.{arith}
@@ -8,16 +8,17 @@ use lib.ListN.{length}
 use Rattle.lists.specs.Places.{at}
 use Rattle.store.specs.Elimination.{rowStart, cells}
 use Rattle.store.proofs.RowStarts.{start-zero, start-next, row-end}
+use Rattle.store.proofs.Bytes.{cells-right}
 use Rattle.store.proofs.Freeing.{column-sum, sum-none, sum-more, sum-room, column-residual}
 use Rattle.store.proofs.settling.residue.Statement.{statement}
 use Rattle.store.proofs.settling.residue.Tie as tie
 
 abbrev Inv-loop : tie.InvT-loop
-Inv-loop store e q c p width sum₀ a₀ i₀ sum a i =
+Inv-loop store e q c p sum₀ a₀ i₀ sum a i =
     (i ≤ q) × (a ≡ rowStart c i + q) × (sum ≡ column-sum p (cells c store) (at e) q i)
 
 abbrev μ-loop : tie.MeasureT-loop
-μ-loop store e q c p width sum₀ a₀ i₀ sum a i = q - i
+μ-loop store e q c p sum₀ a₀ i₀ sum a i = q - i
 
 abbrev start : tie.In-loop Inv-loop μ-loop → tie.Start Inv-loop μ-loop
 start c = c .before .before .before
@@ -26,7 +27,10 @@ start c = c .before .before .before
 place : (c : tie.In-loop Inv-loop μ-loop) →
     let args = start c .args in
     at (args .store .now) (c .before .loop .a) ≡ cells (args .c) (args .store .now) (c .before .loop .i) (args .q)
-place c = ap (at (start c .args .store .now)) (c .before .loop .inv .1)
+place c =
+    let args = start c .args in
+    let loop = c .before .loop in
+    ap (at (args .store .now)) (loop .inv .1) ∙ sym (cells-right (args .c) (args .store .now) (loop .i) (args .q) (loop .inv .0))
 
 inside : (c : tie.In-loop Inv-loop μ-loop) → c .before .loop .i < start c .args .c
 inside c = omega (arith, start c .pre .1 .1 .0)
@@ -44,9 +48,6 @@ room c =
     let i = c .before .loop .i in
     let term = ap (λ (x : ℕ). (s .args .p - at (s .args .e .now) i) * x) (place c) in
     omega (arith, term, c .before .loop .inv .2, sum-room (s .pre .0) (s .pre .1 .0) (s .args .q) i (s .pre .1 .1 .0) (inside c))
-
-add-width : tie.Need-add-width Inv-loop μ-loop
-add-width c = omega arith
 
 shared-slice-read-sum : tie.Need-shared-slice-read-sum Inv-loop μ-loop
 shared-slice-read-sum c = omega (arith, c .before .pre .1 .0 .places, c .before .pre .1 .1 .0)
@@ -90,6 +91,9 @@ mul-sum c = omega (arith, room (c .before .before))
 
 add-sum : tie.Need-add-sum Inv-loop μ-loop
 add-sum c = omega (arith, room (c .before .before))
+
+sub-a : tie.Need-sub-a Inv-loop μ-loop
+sub-a c = omega (arith, inside (c .before .before))
 
 add-a : tie.Need-add-a Inv-loop μ-loop
 add-a c =
@@ -136,7 +140,6 @@ residue-spec =
     (tie.spec
     Inv-loop
     μ-loop
-    add-width
     shared-slice-read-sum
     cast-sum
     loop-holds
@@ -147,6 +150,7 @@ residue-spec =
     cast-sum-2
     mul-sum
     add-sum
+    sub-a
     add-a
     add-i
     loop-less
