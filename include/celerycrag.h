@@ -41,6 +41,26 @@
  * variables), plus the last beta row times the variables.
  *
  *
+ * GENERAL PLANS
+ *
+ * A plan is general when it suits every table: for each table with values below
+ * s there is a beta that reproduces it. That is so exactly when the rows of all
+ * entries are independent, whatever s is. celery_general tells.
+ *
+ * Not every shape has such a plan. Without links the row of entry 0 is all zero,
+ * so m has to be at least 1. And the entries can be at most CELERY_MOST_NEW: with
+ * q the smaller of t and L,
+ *
+ *   (q + 1) L - q (q - 1) / 2
+ *
+ * That is C for t = 0 and t = 1, and less for every other t. For the fixed halves
+ * a and b of any two products make columns dependent: the sum of b_j times column
+ * j of the one is the sum of a_j times column j of the other. So never are more
+ * entries new to a store, whatever is filed. With L = 64 the number is 64 for
+ * t = 0, 253 for t = 3, and 919 for t = 15, where C is 1,024. A plan with more
+ * entries files the tables that it suits, as any other.
+ *
+ *
  * THE STORE
  *
  * A store keeps what the entries filed so far ask of beta, as C equations: row
@@ -75,9 +95,9 @@
  * pointer too: an empty part is NULL and 0 in C, data() and size() of an empty
  * std::vector in C++. Nothing is read or written through it.
  *
- * A single number that a call writes (column, residue, written, y, bootstraps,
- * norm, line) is lent by a pointer that is never null, also where the call is
- * refused. The number there must be aligned for its type and initialised.
+ * A single number that a call writes (column, residue, general, written, y,
+ * bootstraps, norm, line) is lent by a pointer that is never null, also where the
+ * call is refused. The number there must be aligned for its type and initialised.
  *
  * What a call writes must overlap nothing else that it is lent, and nothing
  * else may write to what it is lent until it returns. Parts that are only read
@@ -152,6 +172,14 @@ enum celery_refusal {
 /* A store in the full layout, for celery_to_half and celery_to_full alone. */
 #define CELERY_FULL_STORE_LEN(n, m, t) \
     (CELERY_COLUMNS(n, m, t) * (CELERY_COLUMNS(n, m, t) + 1))
+/*
+ * The most entries that can be new in a store, in any list of filings. A plan
+ * with more entries is never general, see GENERAL PLANS.
+ */
+#define CELERY_MOST_NEW(n, m, t)                                         \
+    ((t) < CELERY_VARIABLES(n, m)                                        \
+         ? CELERY_COLUMNS(n, m, t) - (t) * ((t) - 1) / 2                 \
+         : CELERY_VARIABLES(n, m) * (CELERY_VARIABLES(n, m) + 3) / 2)
 /* The number of steps of a written program, four 16-bit numbers each. */
 #define CELERY_STEP_COUNT(n, m, t)                                       \
     ((m) * ((n) + 2) + (m) * ((m) - 1) / 2 + 1 +                         \
@@ -255,6 +283,25 @@ uint8_t celery_coefficients(CELERY_PLAN, const uint8_t *store, size_t store_len,
  */
 uint8_t celery_settle(CELERY_PLAN, const uint8_t *store, size_t store_len,
                       size_t entry, uint8_t *residue, size_t *column);
+
+/*
+ * Tells whether the plan is general: whether every table with values below s has
+ * coefficients, see GENERAL PLANS. Each entry is filed with the value 0 in the
+ * work store, which is cleared before, and the answer is yes when each was new.
+ *
+ * Lent:    work, C (C + 1) / 2 + C bytes, whose old values do not matter;
+ *          general.
+ * Causes:  1 2 3 4 5.
+ * Writes:  *general: 1 for yes, 0 for no. All of work: it is all zeros after the
+ *          call, an empty store.
+ * Cost:    work is cleared twice. Between, for each entry up to the first that is
+ *          not new, what celery_file costs without celery_test: the row, at most
+ *          about C^2 / 2 multiplications to compare it with what was filed, and
+ *          at most about C^2 / 4 more. No entry is filed where there are more of
+ *          them than CELERY_MOST_NEW.
+ */
+uint8_t celery_general(CELERY_PLAN, uint8_t *work, size_t work_len,
+                       uint8_t *general);
 
 /*
  * Moves a store from the full layout, C rows of C + 1 bytes, to the layout that

@@ -5,8 +5,9 @@
  * compares. The same for the days of a month under two radices, 12 and 2. Then
  * entries are settled to residues of s and more, every part that can be empty is
  * lent as a null pointer, the coefficients are read back from the program and
- * from its listing, and stores are moved from the full layout and back. It is C
- * and C++. Prints "ok", or the line at fault.
+ * from its listing, stores are moved from the full layout and back, and plans are
+ * asked whether they are general. It is C and C++. Prints "ok", or the line at
+ * fault.
  */
 #include "celerycrag.h"
 
@@ -208,6 +209,7 @@ static int days_of_a_month(void)
               wrong[i].answer);
         CHECK(celery_settle(DAYS_IN(wrong[i].radices, wrong[i].count), store, sizeof store, 3, &y, &column) ==
               wrong[i].answer);
+        CHECK(celery_general(DAYS_IN(wrong[i].radices, wrong[i].count), store, sizeof store, &y) == wrong[i].answer);
     }
     CHECK(memcmp(kept, store, sizeof store) == 0);
     CHECK(column == 999 && y == 99);
@@ -466,7 +468,8 @@ static int moved(void)
     CHECK(celery_file(XOR, full, FULL, 0, 0, &column) == CELERY_LENGTH);
     CHECK(celery_coefficients(XOR, full, FULL, beta, C) == CELERY_LENGTH);
     CHECK(celery_settle(XOR, full, FULL, 0, &residue, &column) == CELERY_LENGTH);
-    CHECK(column == 999 && residue == 255);
+    CHECK(celery_general(XOR, full, FULL, &residue) == CELERY_LENGTH);
+    CHECK(column == 999 && residue == 255 && memcmp(full, on_disk, FULL) == 0);
 
     CHECK(sizeof one == sizeof same);
     CHECK(celery_to_full(DIGIT, one, sizeof one, same, sizeof same) == CELERY_ACCEPTED);
@@ -475,6 +478,96 @@ static int moved(void)
     one[0] = 0, one[1] = 9;
     CHECK(celery_to_half(DIGIT, same, sizeof same, one, sizeof one) == CELERY_ACCEPTED);
     CHECK(one[0] == 1 && one[1] == 3);
+    return 0;
+}
+
+/*
+ * A digit of radix 2 to 5 with p = 5, a link that is 1 where the digit is 0 and
+ * else 0, and no product or one, by the digit.
+ */
+enum { LINK_P = 5, LINK_S = 4, LINK_N = 1, LINK_M = 1 };
+static const uint8_t one_weight[CELERY_WEIGHTS_LEN(LINK_N, LINK_M)] = {1};
+static const uint8_t at_zero[CELERY_TABLES_LEN(LINK_P, LINK_M)] = {1, 0, 0, 0, 0};
+static const uint8_t by_digit[CELERY_D_LEN(LINK_N, LINK_M, 1)] = {1, 0};
+#define LINKED(radix)                                                   \
+    LINK_P, LINK_S, LINK_N, LINK_M, 0, radix, 1, one_weight,            \
+    sizeof one_weight, at_zero, sizeof at_zero, NONE
+#define PRODUCT(radix)                                                  \
+    LINK_P, LINK_S, LINK_N, LINK_M, 1, radix, 1, one_weight,            \
+    sizeof one_weight, at_zero, sizeof at_zero, by_digit, sizeof by_digit
+enum { LINKED_STORE = CELERY_STORE_LEN(LINK_N, LINK_M, 0), PRODUCT_STORE = CELERY_STORE_LEN(LINK_N, LINK_M, 1) };
+
+/* Whether so many bytes are all this one. */
+static int all_are(const uint8_t *bytes, size_t count, uint8_t byte)
+{
+    size_t i;
+    for (i = 0; i < count && bytes[i] == byte; i++) {
+    }
+    return i == count;
+}
+
+/*
+ * Asks plans whether they are general. An accepted call answers 1 or 0 and leaves
+ * the work store all zeros, whatever it held, and nothing is written behind it; a
+ * refused one leaves the work store and the answer. Answers 0, or prints the line
+ * at fault.
+ */
+static int general_plans(void)
+{
+    /* The macro is constant, as the lengths are. */
+    enum { MOST = CELERY_MOST_NEW(N, M, T) };
+    static const uint8_t radix[] = {2, 3, 4, 5}, olds[] = {0, 1, 2, 0xA5, 255};
+    static const size_t values[] = {3, 0, 2};
+    uint8_t work[STORE + 1], linked[LINKED_STORE], product[PRODUCT_STORE], general = 9;
+    size_t column = 999, zero = 0, length, i, j;
+
+    CHECK(MOST == 4);
+    CHECK(CELERY_MOST_NEW(LINK_N, LINK_M, 0) == 2 && CELERY_MOST_NEW(LINK_N, LINK_M, 1) == 4);
+    /* As many as C for no product and for one, then fewer, and the same from t = L on. */
+    CHECK(CELERY_MOST_NEW(12, 52, 0) == 64 && CELERY_MOST_NEW(12, 52, 1) == 128);
+    CHECK(CELERY_MOST_NEW(12, 52, 2) == 191 && CELERY_MOST_NEW(12, 52, 3) == 253);
+    CHECK(CELERY_MOST_NEW(12, 52, 15) == 919);
+    CHECK(CELERY_MOST_NEW(2, 0, 2) == 5 && CELERY_MOST_NEW(2, 0, 3) == 5 && CELERY_MOST_NEW(1, 1, 4) == 5);
+    CHECK(CELERY_MOST_NEW(1, 0, 0) == 1 && CELERY_MOST_NEW(1, 0, 1) == 2 && CELERY_MOST_NEW(1, 0, 32) == 2);
+    CHECK(CELERY_MOST_NEW(1, 29, 32) == 495 && CELERY_MOST_NEW(1, 30, 32) == 527 && CELERY_MOST_NEW(1, 31, 31) == 559);
+    /* Of numbers without a sign too. */
+    CHECK(CELERY_MOST_NEW((size_t)12, (size_t)52, zero) == 64);
+
+    for (i = 0; i < sizeof olds; i++) {
+        /* Entry 0 of XOR can only be 0. */
+        memset(work, olds[i], sizeof work);
+        general = 9;
+        CHECK(celery_general(XOR, work, STORE, &general) == CELERY_ACCEPTED);
+        CHECK(general == 0 && all_are(work, STORE, 0) && work[STORE] == olds[i]);
+
+        /* Rows 0 1 and x 0: at most two entries. With the product 0 0 0 1 and x^2 0 x 0: at most three. */
+        for (j = 0; j < sizeof radix; j++) {
+            memset(linked, olds[i], sizeof linked);
+            memset(product, olds[i], sizeof product);
+            CHECK(celery_general(LINKED(radix + j), linked, sizeof linked, &general) == CELERY_ACCEPTED);
+            CHECK(general == (radix[j] <= 2) && all_are(linked, sizeof linked, 0));
+            CHECK(celery_general(PRODUCT(radix + j), product, sizeof product, &general) == CELERY_ACCEPTED);
+            CHECK(general == (radix[j] <= 3) && all_are(product, sizeof product, 0));
+        }
+    }
+    /* Under a general plan any values below s file; the work store is an empty one to begin with. */
+    for (i = 0; i < 3; i++) {
+        CHECK(celery_file(PRODUCT(radix + 1), product, sizeof product, i, values[i], &column) == CELERY_ACCEPTED);
+        CHECK(column < CELERY_COLUMNS(LINK_N, LINK_M, 1));
+    }
+
+    /* Every other length, and each cause before the next: nothing is written. */
+    general = 9;
+    memset(work, 0xA5, sizeof work);
+    for (length = 0; length <= sizeof work; length++)
+        if (length != STORE)
+            CHECK(celery_general(XOR, length ? work : NULL, length, &general) == CELERY_LENGTH);
+    CHECK(celery_general(9, 1, 0, M, T, BITS, NONE, NONE, d, 1, work, 1, &general) == CELERY_NO_PRIME);
+    CHECK(celery_general(P, 1, 0, M, T, BITS, NONE, NONE, d, 1, work, 1, &general) == CELERY_RADIX);
+    CHECK(celery_general(P, S, 0, M, T, BITS, NONE, NONE, d, 1, work, 1, &general) == CELERY_RANGE);
+    CHECK(celery_general(2 + P, S, N, M, T, BITS, NONE, NONE, d, 1, work, STORE, &general) == CELERY_LENGTH);
+    CHECK(celery_general(P, S, N, M, T, BITS, NONE, NONE, olds + 2, 2, work, STORE, &general) == CELERY_NO_RESIDUE);
+    CHECK(general == 9 && all_are(work, sizeof work, 0xA5));
     return 0;
 }
 
@@ -505,6 +598,7 @@ static int empty_parts(void)
     CHECK(celery_coefficients(BARE, NULL, 0, beta, L) == CELERY_LENGTH);
     CHECK(celery_coefficients(BARE, store, sizeof store, NULL, 0) == CELERY_LENGTH);
     CHECK(celery_settle(BARE, NULL, 0, 3, &residue, &column) == CELERY_LENGTH);
+    CHECK(celery_general(BARE, NULL, 0, &residue) == CELERY_LENGTH);
     CHECK(celery_check_writing(BARE, NULL, 0, steps, LAST) == CELERY_LENGTH);
     CHECK(celery_check_writing(BARE, beta, L, NULL, 0) == CELERY_NO_ROOM);
     CHECK(celery_write(BARE, NULL, 0, steps, LAST, &written) == CELERY_LENGTH);
@@ -603,7 +697,8 @@ int main(void)
     CHECK(settle(store, 0, CELERY_DAMAGED, 0, 0));
     CHECK(settle(store, 4, CELERY_DAMAGED, 0, 0)); /* 6 before 7 */
 
-    if (days_of_a_month() != 0 || settled_beyond_s() != 0 || empty_parts() != 0 || read_back() != 0 || moved() != 0)
+    if (days_of_a_month() != 0 || settled_beyond_s() != 0 || empty_parts() != 0 || read_back() != 0 || moved() != 0 ||
+        general_plans() != 0)
         return 1;
 
     puts("ok");

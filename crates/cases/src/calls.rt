@@ -1,4 +1,4 @@
-// Each call with its answer, and after it every byte of a part that it was lent to write. A call k is one of 10 to 23, 25 or 26, and `held` is as main.rt says.
+// Each call with its answer, and after it every byte of a part that it was lent to write. A call k is one of 10 to 23 or 25 to 27, and `held` is as main.rt says.
 use crate::parts::front;
 use crate::parts::lent;
 use crate::parts::lent_steps;
@@ -625,4 +625,31 @@ pub fn move_store(
             lent(full, held[17]),
         );
     }
+}
+
+// The call 27, whether the plan suits every table; the store is lent as its work store.
+pub fn general(held: &[usize; 18], parts: &[[u8; 2048]; 6], store: &mut [u8]) {
+    let work = lent(store, held[15]);
+    let answer = general::general(
+        held[0],
+        held[1],
+        held[2],
+        held[3],
+        held[4],
+        front(&parts[1], held[9]),
+        front(&parts[2], held[10]),
+        front(&parts[3], held[11]),
+        front(&parts[4], held[12]),
+        work,
+    );
+    match answer {
+        general::Suited::Yes => {
+            io::write_all(1, b"= yes\n");
+        }
+        general::Suited::No => {
+            io::write_all(1, b"= no\n");
+        }
+        general::Suited::Refused(k) => say(b"refused", k as usize),
+    }
+    bytes(b"= store", work);
 }

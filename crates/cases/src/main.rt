@@ -5,6 +5,7 @@
 // A command is known by its place among the words in `read`, from 0. `args` has the numbers of the line. `held` has p s n m t, then at 5 the
 // length of the step slice, at 6 the count of the line's numbers, and from 8 the lengths of the byte parts: the text, radices, weights,
 // tables, d and digits, which stand in `parts`, then row, store, beta and full, which calls may write.
+use crate::calls::general;
 use crate::calls::move_store;
 use crate::calls::print_text;
 use crate::calls::with_program;
@@ -70,25 +71,25 @@ fn set(
     }
 }
 
-// Prints a line, and reads a command: its numbers into `args`, how many they are into held[6]. Answers which it is, 27 for a line of a text,
-// and 28 for a name or a malformed line.
+// Prints a line, and reads a command: its numbers into `args`, how many they are into held[6]. Answers which it is, 28 for a line of a text,
+// and 29 for a name or a malformed line.
 fn read(line: &[u8], args: &mut [usize; 2048], held: &mut [usize; 18]) -> usize {
     io::write_all(1, line);
     match byte(line, 0) {
-        b'#' | b'\n' => return 28,
-        b'>' => return 27,
+        b'#' | b'\n' => return 29,
+        b'>' => return 28,
         _ => {}
     }
     let k = find(
         b"plan radices weights tables d digits row store beta steps plan::check plan::row store::test store::file store::coefficients \
           store::settle program::check_writing program::write_into program::write program::run listing::worst_norm readback::read_steps readback::read_listing \
-          text::print_text full store::to_half store::to_full ",
+          text::print_text full store::to_half store::to_full general::general ",
         line,
     );
     let count = numbers(line, args);
     if wanted(k, count) != count {
         io::write_all(1, b"= malformed\n");
-        return 28;
+        return 29;
     }
     held[6] = count;
     k
@@ -119,7 +120,8 @@ fn obey(
         23 => print_text(held, parts, args[0]),
         24 => set(k, args, held, parts, row, store, beta, full, steps),
         25 | 26 => move_store(k, held, parts, store, full),
-        27 => held[8] = append(&mut parts[0], held[8], line),
+        27 => general(held, parts, store),
+        28 => held[8] = append(&mut parts[0], held[8], line),
         _ => {}
     }
 }

@@ -1,6 +1,6 @@
 -- An answer's number and values tell its case: a contract on `answerOf` says which value of the enum is returned.
---     checkedOf, filedOf, settledOf, ranOf, normedOf                     the case with these values, or with this number
---     checked-told, filed-told, settled-told, ran-told, normed-told      of an answer's number and values, it is that answer
+--     checkedOf, filedOf, settledOf, suitedOf, ranOf, normedOf     the case with these values, or with this number
+--     checked-told, filed-told, settled-told, suited-told, ran-told, normed-told     of an answer's number and values, it is that answer
 -- Assumes nothing.
 use mathlib.Core.Path.{_≡_, refl}
 use mathlib.Core.Bool.{cond}
@@ -17,6 +17,9 @@ use Rattle.store.specs.declared.elimination.Filed.the-variants as filed
 use Rattle.store.specs.Settled as settling
 use Rattle.store.specs.declared.settling.Settled.{Settled}
 use Rattle.store.specs.declared.settling.Settled.the-variants as settled
+use Rattle.general.specs.Suits as suits
+use Rattle.general.specs.declared.Suited.{Suited}
+use Rattle.general.specs.declared.Suited.the-variants as suited
 use Rattle.program.specs.Calls as programs
 use Rattle.program.specs.declared.running.Ran.{Ran}
 use Rattle.program.specs.declared.running.Ran.the-variants as ran
@@ -51,6 +54,15 @@ pub settled-told : (a : Settled) → settledOf (settling.answerOf a) ≡ a
 settled-told (settled.Forced v) = refl
 settled-told (settled.Free c) = refl
 settled-told (settled.Refused k) = refl
+
+abbrev suitedOf : Answer → Suited
+suitedOf (gives vs) = cond (eqb (at vs 0) 1) suited.Yes suited.No
+suitedOf (refuses k) = suited.Refused k
+
+pub suited-told : (a : Suited) → suitedOf (suits.answerOf a) ≡ a
+suited-told suited.Yes = refl
+suited-told suited.No = refl
+suited-told (suited.Refused k) = refl
 
 abbrev ranOf : Answer → Ran
 ranOf (gives vs) = ran.Done (at vs 0) (at vs 1)

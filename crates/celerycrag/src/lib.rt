@@ -1,8 +1,8 @@
 // The library for hosts: every call as a C function over the entry points below, with the prefix `celery_`.
 //
 // An answer is 01's number, 0 where the call is accepted; what else an answer carries goes through a lent number, which a refusal leaves
-// alone, but for the line that comes with 13 and 15. include/celerycrag.h documents each call. Stands on `plan`, `store`, `program`, `listing`
-// and `readback`. Renders 01, "Turned down", for a host: of causes 1 to 12, 13 and 15 the number returned and what is left as it was, in the
+// alone, but for the line that comes with 13 and 15. include/celerycrag.h documents each call. Stands on `plan`, `store`, `general`, `program`,
+// `listing` and `readback`. Renders 01, "Turned down", for a host: of causes 1 to 12, 13 and 15 the number returned and what is left as it was, in the
 // words of the contracts below.
 ghost use mathlib.Core.Path.{_≡_};
 ghost use Prim.Native.Nat.{_*_};
@@ -13,6 +13,7 @@ ghost use Rattle.plan.specs.Rows as rows;
 ghost use Rattle.store.specs.Calls as stores;
 ghost use Rattle.store.specs.Moves as moves;
 ghost use Rattle.store.specs.Settled as settled;
+ghost use Rattle.general.specs.Suits as suits;
 ghost use Rattle.program.specs.Layout.{stepCount};
 ghost use Rattle.program.specs.Calls as programs;
 ghost use Rattle.listing.specs.Norm as norms;
@@ -187,6 +188,39 @@ pub extern "C" fn celery_coefficients(
     ensures { λ r. ⌜ now (beta .exit) ≡ result r (stores.coefficients (columns (plan p s n m t)) (now (store .entry))) (now (beta .entry)) ⌝ }
 {
     store::coefficients(p, s, n, m, t, radices, weights, tables, d, store, beta)
+}
+
+// Whether a plan suits every table: causes 1 2 3 4 5. `general` becomes 1 for yes and 0 for no, and the work store is all zeros.
+#[no_mangle]
+pub extern "C" fn celery_general(
+    p: usize,
+    s: usize,
+    n: usize,
+    m: usize,
+    t: usize,
+    radices: &[u8],
+    weights: &[u8],
+    tables: &[u8],
+    d: &[u8],
+    work: &mut [u8],
+    general: &mut u8,
+) -> u8
+    ensures { λ r. ⌜ r ≡ numberOf (suits.generalAnswer (given p s n m t (now (radices .entry)) (now (weights .entry)) (now (tables .entry)) (now (d .entry))) (now (work .entry))) ⌝ }
+    ensures { λ r. ⌜ now (work .exit) ≡ suits.generalWork (given p s n m t (now (radices .entry)) (now (weights .entry)) (now (tables .entry)) (now (d .entry))) (now (work .entry)) ⌝ }
+    ensures { λ r. ⌜ now (general .exit) ≡ specs.valueOf (suits.generalAnswer (given p s n m t (now (radices .entry)) (now (weights .entry)) (now (tables .entry)) (now (d .entry))) (now (work .entry))) 0 (now (general .entry)) ⌝ }
+{
+    let a = general::general(p, s, n, m, t, radices, weights, tables, d, work);
+    match a {
+        general::Suited::Yes => {
+            *general = 1;
+            0
+        }
+        general::Suited::No => {
+            *general = 0;
+            0
+        }
+        general::Suited::Refused(k) => k,
+    }
 }
 
 // Moves a store from the layout before, C rows of C + 1 bytes, to the new one: causes 1 2 3 4 5 6.

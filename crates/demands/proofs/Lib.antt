@@ -5,4 +5,7 @@ pub mod Lists
 pub mod Programs
 pub mod Demand3
 pub mod Settlement
+pub mod Tables
+pub mod General
+pub mod News
 pub mod Cases

@@ -35,7 +35,7 @@ abbrev pub Equation : ℕ → ℕ → (ℕ → ℕ) → Type 0
 Equation p C e = (j : ℕ) → j ≤ C → e j < p
 
 module _ (p C : ℕ) (prime : oddPrime p ≡ true) (S : ℕ → ℕ → ℕ) (e : ℕ → ℕ) (red : Reduced p C S) (eqn : Equation p C e) where
-  normal-fits : (c : ℕ) → c < C → ((j : ℕ) → j < c → residual p C S e j ≡ 0) → residual p C S e c ≢ 0
+  pub normal-fits : (c : ℕ) → c < C → ((j : ℕ) → j < c → residual p C S e j ≡ 0) → residual p C S e c ≢ 0
       → Fits p C S (normal p (residual p C S e) c) c
   normal-fits c l b d =
       record {

@@ -1,7 +1,7 @@
 -- One store with any equations: what a list of filings keeps true of it. `eq i v` is the equation of entry i with value v; its places up to C
 -- are residues for values below s.
 --     empty-reduced, empty-solves     the empty store is reduced, and everything solves it
---     zeros, zeros-reduced            its bytes
+--     zeros, zeros-read, zeros-reduced      its bytes
 --     Holds S K                       the store has its length and reduced form, what solves it is what satisfies each entry of K, and K is in range
 --     holds-empty                     the empty store, with nothing kept
 --     contradicts                     filing is a contradiction exactly when no list of C residues satisfies it together with all of K
@@ -38,7 +38,7 @@ empty-solves p C β q l = satisfies-zero p C β (empty q) (λ j k. refl)
 abbrev pub zeros : ℕ → List ℕ
 zeros C = replicate (storeSize C) 0
 
-zeros-read : (C q j : ℕ) → 0 ≡ cells C (zeros C) q j
+pub zeros-read : (C q j : ℕ) → 0 ≡ cells C (zeros C) q j
 zeros-read C q j = elim (decLt j q) [
   | yes l ↦ sym (cells-left C (zeros C) q j l)
   | no l ↦ sym (cells-right C (zeros C) q j (omega arith) ∙ zeros-at (storeSize C) (rowStart C q + j))

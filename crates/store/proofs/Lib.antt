@@ -14,9 +14,6 @@ pub mod Filing
 pub mod ReadingOff
 pub mod Contradictions
 pub mod Implications
-pub mod Uniqueness
-pub mod Spans
-pub mod FilingSpans
 pub mod Holding
 pub mod Fronts
 pub mod Pasting
@@ -35,7 +32,5 @@ pub mod Outcomes
 pub mod EntryEquations
 pub mod StoreCalls
 pub mod Readiness
-pub mod OneReducedForm
 pub mod Standings
 pub mod SettledEntries
-pub mod SameCalls

@@ -93,8 +93,8 @@ module _ {p C : ℕ} {store : List ℕ} {e : ℕ → ℕ} {k : ℕ} (found : Lea
         rw (sym g, lt-ltb k C l)
         (flat-ext C (inserted p (cells C store) (normal p res k) k) (inserted p (cells C store) (normal p (residual p C (cells C store) e) k) k)
         (λ q j a low b.
-        inserted-ext p C (cells C store) (cells C store) (λ q j a b. refl) (normal p res k) (normal p (residual p C (cells C store) e) k) k l
-        (normal-ext p C res (residual p C (cells C store) e) k (le-of-lt l) same) q j a b))
+        inserted-ext p (cells C store) (cells C store) (normal p res k) (normal p (residual p C (cells C store) e) k) k q j refl refl
+        (normal-ext p res (residual p C (cells C store) e) k j (same k (le-of-lt l)) (same j b))))
 
   module _ (l : C ≤ k) where
     pub conflict-answer : (residual p C (cells C store) e C ≡ 0 → ⊥) → answerOf (Refused 9) ≡ answered (outcome p C (cells C store) e)

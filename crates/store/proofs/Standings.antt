@@ -24,7 +24,7 @@ use Rattle.store.specs.Elimination.{Outcome, new, implied, contradiction
 use Rattle.store.specs.Settled.{Standing, forced, free, standing, answerOf, valuesOf}
 use Rattle.store.specs.declared.settling.Settled.the-variants.{Forced, Free}
 use Rattle.store.proofs.Leads.{lead-ext}
-use Rattle.store.proofs.Residuals.{residual-small, residual-below}
+use Rattle.store.proofs.Residuals.{residual-small, residual-ext}
 use Rattle.store.proofs.Answers.{new≢implied, new≢contradiction, implied≢contradiction}
 
 -- the answer, by the first column k at which the residual is not 0
@@ -70,7 +70,7 @@ module _ (p C : ℕ) (S : ℕ → ℕ → ℕ) (f : ℕ → ℕ → ℕ) (same :
 
   lead-same : (v : ℕ) → lead (residual p C S (f v)) C ≡ lead R C
   unfolding R
-  lead-same v = lead-ext (residual p C S (f v)) (residual p C S (f 0)) C (residual-below p C S (f v) (f 0) (same v))
+  lead-same v = lead-ext (residual p C S (f v)) (residual p C S (f 0)) C (λ j l. residual-ext p C S S (f v) (f 0) j (λ q k. refl) (same v) (same v j l))
 
   pub resolved-by : (v : ℕ) → 0 < p → v < p → outcome p C S (f v) ≡ resolution (standing p C S (f 0)) v
   unfolding outcome standing R

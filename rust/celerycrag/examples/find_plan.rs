@@ -3,6 +3,7 @@
 //! entries, as the filing program reads it.
 //!
 //!     find_plan [-r radix,radix,..] p s n m t seed [value ...]
+//!     find_plan -g [-r radix,radix,..] p s n m t seed
 //!
 //! The radices are those of the n digits, the most significant first, with a
 //! comma between; where none are given, each is s. The values, below s, are
@@ -12,10 +13,16 @@
 //! uniformly among those that are not affine. The same seed finds the same plan.
 //! The seed and the number of plans drawn are printed on standard error.
 //!
-//! The search goes on until it finds a plan. With L = n + m and t at most L, a
-//! plan has at most (t+1)L - t(t-1)/2 independent columns, and each that is
-//! missing to the number of entries makes a fitting plan about p times rarer.
-//! With no links, entry 0 can only be 0.
+//! With -g there is no table: a plan is drawn that is general, which suits every
+//! table, and its text is printed without entries. They can be written behind it
+//! later, in any order and with any values.
+//!
+//! The search goes on until it finds a plan. No plan of a shape is general where
+//! there are more entries than can be new (`Plan::most_new`). Then a table has to
+//! fit the plan by chance, or by what it has in common with it, and each entry too
+//! many makes a fitting plan about p times rarer; it is said on standard error
+//! before the first plan is drawn. With -g there is then nothing to look for, and
+//! nothing with no links, where entry 0 can only be 0.
 //!
 //!     echo 0 1 1 0 | cargo run --release --example find_plan -- 3 2 2 0 1 1
 //!
@@ -24,13 +31,18 @@
 //!
 //!     cargo run --release --example find_plan -- -r 12,2 13 4 2 6 2 1 \
 //!         3 3  0 1  3 3  2 2  3 3  2 2  3 3  3 3  2 2  3 3  2 2  3 3
+//!
+//! A plan for any table of these 24 entries, with a product more:
+//!
+//!     cargo run --release --example find_plan -- -g -r 12,2 13 4 2 6 3 1
 
 use celerycrag::{Plan, Shape, Store};
 use reference::random::SplitMix;
 use std::io::Read;
 use std::process::exit;
 
-const USAGE: &str = "find_plan [-r radix,radix,..] p s n m t seed [value ...]";
+const USAGE: &str = "find_plan [-r radix,radix,..] p s n m t seed [value ...]\n\
+    find_plan -g [-r radix,radix,..] p s n m t seed";
 /// The most columns of a plan text.
 const COLUMNS: usize = 360;
 
@@ -86,6 +98,12 @@ fn draw(random: &mut Random, shape: Shape, radices: &[u8]) -> Plan {
     drawn.unwrap_or_else(|refusal| give_up(&refusal.to_string()))
 }
 
+/// Whether every table of the plan files without contradiction.
+fn is_general(plan: &Plan) -> bool {
+    let answer = plan.is_general();
+    answer.unwrap_or_else(|refusal| give_up(&refusal.to_string()))
+}
+
 /// Whether the whole table files without contradiction.
 fn files(plan: &Plan, values: &[usize]) -> bool {
     let mut store = Store::new(plan);
@@ -124,6 +142,13 @@ fn give_up(message: &str) -> ! {
     exit(1)
 }
 
+/// Takes -g off the arguments, where it is given.
+fn take_general(arguments: &mut Vec<String>) -> bool {
+    let given = arguments.first().map(String::as_str) == Some("-g");
+    arguments.drain(..usize::from(given));
+    given
+}
+
 /// Takes the radices off the arguments, where they are given.
 fn take_radices(arguments: &mut Vec<String>) -> Option<Vec<usize>> {
     if arguments.first().map(String::as_str) != Some("-r") {
@@ -143,8 +168,8 @@ fn numbers<'a>(words: impl Iterator<Item = &'a str>) -> Vec<usize> {
     words.map(number).collect()
 }
 
-/// Gives up where no plan of the shape and the radices can file the table.
-fn check(shape: Shape, radices: &[u8], values: &[usize]) {
+/// Gives up where there is no plan text of the shape and the radices.
+fn check_shape(shape: Shape, radices: &[u8]) {
     // With no other part given, numbers and radices that pass are accepted or
     // refused for the length of a part, which is 4.
     if let Err(refusal) = Plan::new(shape, radices.to_vec(), vec![], vec![], vec![]) {
@@ -152,32 +177,48 @@ fn check(shape: Shape, radices: &[u8], values: &[usize]) {
             give_up(&format!("the shape is {refusal}"));
         }
     }
-    let Shape { s, n, m, t, .. } = shape;
+    let Shape { n, m, t, .. } = shape;
     if radices.len() != n {
         give_up("there are not n radices");
     }
     if (t + 1) * (n + m) > COLUMNS {
         give_up(&format!("the shape has more than {COLUMNS} columns"));
     }
-    let entries: usize = radices.iter().map(|&radix| usize::from(radix)).product();
+}
+
+/// Gives up where no plan of the shape can file the table of so many entries.
+fn check_values(shape: Shape, entries: usize, values: &[usize]) {
     if values.len() != entries {
         give_up(&format!(
             "there are {entries} entries and not as many values"
         ));
     }
-    if values.iter().any(|&value| value >= s) {
+    if values.iter().any(|&value| value >= shape.s) {
         give_up("a value is not below s");
     }
-    if m == 0 && values[0] != 0 {
+    if shape.m == 0 && values[0] != 0 {
         give_up("with no links, entry 0 can only be 0");
+    }
+}
+
+/// How many entries a plan of this shape and these radices has, and how many of
+/// them can be new at most: those of one whose residues are all zero.
+fn sizes(shape: Shape, radices: &[u8]) -> (usize, usize) {
+    let Shape { p, n, m, t, .. } = shape;
+    let weights = vec![0; (0..m).map(|k| n + k).sum()];
+    let (tables, d) = (vec![0; m * p], vec![0; t * (n + m)]);
+    match Plan::new(shape, radices.to_vec(), weights, tables, d) {
+        Ok(plan) => (plan.entries(), plan.most_new()),
+        Err(refusal) => give_up(&refusal.to_string()),
     }
 }
 
 fn main() {
     let mut arguments: Vec<String> = std::env::args().skip(1).collect();
+    let general = take_general(&mut arguments);
     let radices = take_radices(&mut arguments);
     let mut given = numbers(arguments.iter().map(String::as_str));
-    if given.len() < 6 {
+    if given.len() < 6 || general && given.len() > 6 {
         give_up(USAGE);
     }
     let mut values = given.split_off(6);
@@ -188,20 +229,40 @@ fn main() {
     let radices = radices.unwrap_or_else(|| vec![s; n.min(65)]);
     let byte = |radix: usize| u8::try_from(radix).unwrap_or(u8::MAX);
     let radices: Vec<u8> = radices.into_iter().map(byte).collect();
-    if values.is_empty() {
+    if values.is_empty() && !general {
         let mut text = String::new();
         if std::io::stdin().read_to_string(&mut text).is_err() {
             give_up("standard input is no text");
         }
         values = numbers(text.split_whitespace());
     }
-    check(shape, &radices, &values);
+    check_shape(shape, &radices);
+    let (entries, most) = sizes(shape, &radices);
+    if !general {
+        check_values(shape, entries, &values);
+    } else if m == 0 {
+        give_up("with no links, entry 0 can only be 0: no plan is general");
+    }
+    if entries > most {
+        let none = format!(
+            "no plan of this shape is general: of its {entries} entries at most {most} can be new"
+        );
+        if general {
+            give_up(&none);
+        }
+        let missing = entries - most;
+        eprintln!("{none}; a table without structure fits about one plan in {p}^{missing}");
+    }
 
     eprintln!("seed {seed}");
     let mut random = Random(SplitMix(seed as u64));
     for draws in 1u64.. {
         let plan = draw(&mut random, shape, &radices);
-        if files(&plan, &values) {
+        let found = match general {
+            true => is_general(&plan),
+            false => files(&plan, &values),
+        };
+        if found {
             eprintln!("draws {draws}");
             print(&plan, &values);
             return;

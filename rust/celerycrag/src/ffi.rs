@@ -46,6 +46,7 @@ calls! {
         residue: *mut u8,
         column: *mut usize
     );
+    celery_general(work: *mut u8, work_len: usize, general: *mut u8);
     celery_to_half(full: *const u8, full_len: usize, half: *mut u8, half_len: usize);
     celery_to_full(half: *const u8, half_len: usize, full: *mut u8, full_len: usize);
     celery_check_writing(beta: *const u8, beta_len: usize, steps: *const u16, steps_len: usize);

@@ -85,6 +85,40 @@
 //!
 //! [`Plan::with_radix`] takes one radix, s, for all digits.
 //!
+//! # Plans that suit every table
+//!
+//! A plan can be shelved before anyone has a table for it: [`Plan::is_general`]
+//! tells whether every table with values below s has coefficients under it.
+//! [`Plan::most_new`] bounds the entries of such a plan, so that a shape without
+//! one is known before plans of it are drawn.
+//!
+//! ```
+//! use celerycrag::{Filed, Plan, Refusal, Shape, Store};
+//!
+//! # fn main() -> Result<(), Refusal> {
+//! // One digit x, a link that is 1 where x is 0 and else 0, and a product by x.
+//! let shape = Shape { p: 5, s: 4, n: 1, m: 1, t: 1 };
+//! let plan = |radix| Plan::new(shape, vec![radix], vec![1], vec![1, 0, 0, 0, 0], vec![1, 0]);
+//!
+//! // With three entries any three values file.
+//! let three = plan(3)?;
+//! assert!(three.is_general()?);
+//! let mut store = Store::new(&three);
+//! for (entry, value) in [2, 0, 3].into_iter().enumerate() {
+//!     assert!(matches!(store.file(entry, value)?, Filed::New { .. }));
+//! }
+//!
+//! // Four entries could be new under a plan of this shape, though not under this
+//! // one; five could not.
+//! let (four, five) = (plan(4)?, plan(5)?);
+//! assert_eq!((four.entries(), four.most_new()), (4, 4));
+//! assert!(!four.is_general()?);
+//! assert!(five.entries() > five.most_new());
+//! assert!(!five.is_general()?);
+//! # Ok(())
+//! # }
+//! ```
+//!
 //! # Which outputs are settled
 //!
 //! While a table is typed in, the entries kept so far may already decide the

@@ -2,7 +2,7 @@
 
 use crate::program::Ran;
 use crate::raw::{self, Lent};
-use crate::{ListingRefusal, Refusal};
+use crate::{ListingRefusal, Refusal, Store};
 use std::sync::Arc;
 
 /// The five numbers of a plan.
@@ -170,6 +170,73 @@ impl Plan {
         let Shape { n, m, t, .. } = self.shape;
         let links = (0..m).map(|k| n + k + 2).sum::<usize>();
         links + 1 + t * (2 * self.variables() + 12) + self.variables()
+    }
+
+    /// The most entries that can be new in a store of this plan, whatever is
+    /// filed in whichever order: with q the smaller of t and L, it is
+    /// (q + 1) L - q (q - 1) / 2.
+    ///
+    /// With two products or more it is below C, because for any two products one
+    /// of their columns follows from the others. A plan with more entries is never
+    /// general, see [`Plan::is_general`]; one with as many or fewer may be, where
+    /// it has links. The number is for choosing a shape: nothing here rests on it.
+    ///
+    /// ```
+    /// use celerycrag::{Plan, Shape};
+    /// // 36 entries of 36 columns; but at most 33 of them can be new.
+    /// let shape = Shape { p: 7, s: 6, n: 2, m: 7, t: 3 };
+    /// let plan = Plan::with_radix(shape, vec![0; 35], vec![0; 49], vec![0; 27])?;
+    /// assert_eq!((plan.entries(), plan.columns()), (36, 36));
+    /// assert_eq!(plan.most_new(), 33);
+    /// assert!(!plan.is_general()?);
+    /// # Ok::<(), celerycrag::Refusal>(())
+    /// ```
+    pub fn most_new(&self) -> usize {
+        let variables = self.variables();
+        let products = self.shape.t.min(variables);
+        // Product b, counted from 0, adds a column less for each before it.
+        let in_products = (0..products).map(|b| variables - b);
+        variables + in_products.sum::<usize>()
+    }
+
+    /// Whether the plan suits every table: for each table with values below s
+    /// there are coefficients that reproduce it.
+    ///
+    /// That is so exactly when each entry is new to a store of those before it,
+    /// whatever s and the values. A plan without links is never general, since
+    /// its entry 0 can only be 0, and no plan is that has more entries than
+    /// [`Plan::most_new`].
+    ///
+    /// ```
+    /// use celerycrag::{Plan, Refusal, Shape, Store};
+    /// # fn main() -> Result<(), Refusal> {
+    /// // Two bits, and two links: one is 1 at the entry 0 0 alone, the other at
+    /// // 1 1 alone.
+    /// let shape = Shape { p: 5, s: 5, n: 2, m: 2, t: 0 };
+    /// let (weights, tables) = (vec![1, 1, 1, 1, 0], vec![1, 0, 0, 0, 0, 0, 0, 1, 0, 0]);
+    /// let plan = Plan::new(shape, vec![2, 2], weights, tables, vec![])?;
+    /// assert!(plan.is_general()?);
+    /// let mut store = Store::new(&plan);
+    /// for (entry, value) in [4, 0, 3, 3].into_iter().enumerate() {
+    ///     store.file(entry, value)?;
+    /// }
+    ///
+    /// // The exclusive or files under its plan, and other tables do not.
+    /// let shape = Shape { p: 3, s: 2, n: 2, m: 0, t: 1 };
+    /// let plan = Plan::new(shape, vec![2, 2], vec![], vec![], vec![1, 1])?;
+    /// assert!(!plan.is_general()?);
+    /// # Ok(())
+    /// # }
+    /// ```
+    ///
+    /// # Errors
+    /// None: a plan was accepted when it was made. The library tests it again,
+    /// and only memory that was damaged meanwhile is refused.
+    pub fn is_general(&self) -> Result<bool, Refusal> {
+        let mut work = Store::new(self).into_bytes();
+        let mut general = 0;
+        Refusal::unless_0(raw::general(self.lent(), &mut work, &mut general))?;
+        Ok(general == 1)
     }
 
     /// The row of an entry: C residues.

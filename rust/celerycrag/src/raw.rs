@@ -123,6 +123,13 @@ pub fn settle(plan: Lent, store: &[u8], entry: usize, residue: &mut u8, column: 
     )
 }
 
+/// Tells whether every table with values below s has coefficients under the
+/// plan: `general` becomes 1 where it is so, else 0. `work` is as long as a store;
+/// its old bytes do not matter, and all of it becomes zero. Causes 1 2 3 4 5.
+pub fn general(plan: Lent, work: &mut [u8], general: &mut u8) -> u8 {
+    call!(celery_general, plan, work.as_mut_ptr(), work.len(), general)
+}
+
 /// Moves a store from the full layout, C rows of C + 1 bytes, to the one that all
 /// other calls take. A store that is not in reduced form is refused, and then
 /// `half` is left as it was. Causes 1 2 3 4 5 6.

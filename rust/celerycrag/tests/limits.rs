@@ -37,7 +37,7 @@ const MIXED: [([usize; 5], &[u8]); 6] = [
     ([241, 3, 5, 26, 32], &[2, 3, 4, 5, 34]),
 ];
 
-/// All fourteen calls on a lot of this plan with other residues, a few more
+/// All fifteen calls on a lot of this plan with other residues, a few more
 /// filings, and a program.
 fn large(random: &mut Random, plan: Owned, tally: &mut Tally) {
     let mut lot = lot_of(random, plan);
@@ -290,7 +290,7 @@ fn radices_at_the_limits() {
     }
 }
 
-/// The same lists in all fourteen calls, where the rest of a lot fits n digits.
+/// The same lists in all fifteen calls, where the rest of a lot fits n digits.
 #[test]
 fn radices_at_the_limits_in_every_call() {
     let mut tally = Tally::default();

@@ -304,6 +304,8 @@ fn a_full_store_in_other_calls() {
             assert_eq!(filed, Err(4));
             let settled = twins::settle(&plan, &full, entry, &mut tally);
             assert_eq!(settled.err(), Some(4));
+            let general = twins::general(&plan, &mut full, &mut tally);
+            assert_eq!(general, Err(4));
             let mut beta = random.bytes(plan.columns(), 256);
             let read_off = twins::coefficients(&plan, &full, &mut beta, &mut tally);
             assert_eq!(read_off, 4);

@@ -1,5 +1,5 @@
 //! A naive twin of the table library: document 01, with the requests of 02 that
-//! have landed (C-11, C-12, C-14 to C-16; C-13 changes no answer), in plain Rust.
+//! have landed (C-11, C-12, C-14 to C-17; C-13 changes no answer), in plain Rust.
 //!
 //! It is written from the papers alone and shares no line with the library.
 //! Tests and benchmarks compare the two, so every function here takes the
@@ -14,6 +14,7 @@
 //! | [`file()`] | store in and out, entry, value | [`Filed`] | 1 2 3 4 5 6 7 8 9 |
 //! | [`coefficients`] | store, β out | number | 1 2 3 4 5 6 |
 //! | [`settle`] | store, entry | [`Settled`] | 1 2 3 4 5 6 7 |
+//! | [`general()`] | work store | [`General`] | 1 2 3 4 5 |
 //! | [`to_half`] | full store, store out | number | 1 2 3 4 5 6 |
 //! | [`to_full`] | store, full store out | number | 1 2 3 4 5 6 |
 //! | [`check_writing`] | β, step slice | number | 1 2 3 4 5 10 |
@@ -36,6 +37,7 @@
 #![allow(clippy::too_many_arguments)]
 
 mod field;
+mod general;
 mod layout;
 mod lines;
 mod listing;
@@ -49,6 +51,7 @@ mod store;
 mod text;
 
 pub use field::{inverse, is_odd_prime};
+pub use general::{general, General};
 pub use layout::{halved, to_full, to_half, widened};
 pub use listing::listing;
 pub use norm::worst_norm;

@@ -342,6 +342,7 @@ fn an_old_store_in_a_call() {
     assert_eq!(x.test(&full), 4);
     assert_eq!(x.file(&mut full, 1, 1), Filed::Refused(4));
     assert_eq!(x.settle(&full, 1), reference::Settled::Refused(4));
+    assert_eq!(x.general_in(&full), Err(4));
     let mut beta = [9; 4];
     assert_eq!(call!(coefficients, x, &full, &mut beta), 4);
     assert_eq!((full, beta), (x.empty_full(), [9; 4]));

@@ -135,7 +135,7 @@ fn cause_2_by_any_radix_comes_before_3_by_any_product() {
 
 /// What each call answers, all its own parts being as the plan's numbers ask.
 /// A refused call leaves them as they were.
-fn every_call(plan: &Owned) -> [u32; 9] {
+fn every_call(plan: &Owned) -> [u32; 10] {
     let columns = plan.columns();
     let (mut row, mut store, mut beta) = (vec![9; columns], plan.empty_store(), vec![9; columns]);
     let good = vec![1; columns];
@@ -169,6 +169,7 @@ fn every_call(plan: &Owned) -> [u32; 9] {
         filed,
         read_off,
         settled,
+        plan.general_in(&plan.empty_store()).err().unwrap_or(0),
         checked,
         plan.run(&[], &vec![0; plan.n as usize]).err().unwrap_or(0),
         plan.worst(&good).err().unwrap_or(0),
@@ -188,7 +189,7 @@ fn month_and_bit() -> Owned {
 #[test]
 fn every_call_refuses_radices_alike() {
     let good = month_and_bit();
-    assert_eq!(every_call(&good), [0; 9]);
+    assert_eq!(every_call(&good), [0; 10]);
     for (radices, number) in [
         (&[12, 1][..], 2),
         (&[0, 2], 2),
@@ -212,7 +213,7 @@ fn every_call_refuses_radices_alike() {
             radices: radices.to_vec(),
             ..good.clone()
         };
-        assert_eq!(every_call(&plan), [number; 9], "{radices:?}");
+        assert_eq!(every_call(&plan), [number; 10], "{radices:?}");
     }
 }
 
@@ -225,8 +226,8 @@ fn two_causes_and_the_first_put_right() {
         every_call(&plan)
     };
     // 1 before a bad radix.
-    assert_eq!(with(&|plan| (plan.p, plan.radices[1]) = (15, 1)), [1; 9]);
-    assert_eq!(with(&|plan| plan.radices[1] = 1), [2; 9]);
+    assert_eq!(with(&|plan| (plan.p, plan.radices[1]) = (15, 1)), [1; 10]);
+    assert_eq!(with(&|plan| plan.radices[1] = 1), [2; 10]);
     // A bad radix before 3 by t, 4 and 5.
     let spoil = |plan: &mut Owned| {
         plan.weights = vec![13; 3];
@@ -238,9 +239,9 @@ fn two_causes_and_the_first_put_right() {
             spoil(plan);
             bad_radix(plan);
         }),
-        [2; 9]
+        [2; 10]
     );
-    assert_eq!(with(&spoil), [3; 9]);
+    assert_eq!(with(&spoil), [3; 10]);
     // The product before 4 and 5.
     let length_and_value = |plan: &mut Owned| plan.weights = vec![13; 3];
     let product = |plan: &mut Owned| plan.radices = vec![13; 4];
@@ -249,9 +250,9 @@ fn two_causes_and_the_first_put_right() {
             length_and_value(plan);
             product(plan);
         }),
-        [3; 9]
+        [3; 10]
     );
-    assert_eq!(with(&length_and_value), [4; 9]);
+    assert_eq!(with(&length_and_value), [4; 10]);
     // The number of radices before 5.
     let value = |plan: &mut Owned| plan.d[2] = 13;
     for radices in [&[12][..], &[12, 2, 2], &[]] {
@@ -260,10 +261,10 @@ fn two_causes_and_the_first_put_right() {
                 value(plan);
                 plan.radices = radices.to_vec();
             }),
-            [4; 9]
+            [4; 10]
         );
     }
-    assert_eq!(with(&value), [5; 9]);
+    assert_eq!(with(&value), [5; 10]);
 }
 
 #[test]

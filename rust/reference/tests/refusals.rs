@@ -153,6 +153,21 @@ fn settle_in_order() {
 }
 
 #[test]
+fn general_in_order() {
+    // The old bytes of the work store are no damage.
+    let mut broken = Broken::new();
+    let mut work = vec![1; 28];
+    for cause in [1, 2, 3, 4, 5] {
+        assert_eq!(broken.plan.general_in(&work), Err(cause));
+        broken.repair(cause);
+        if cause == 4 {
+            work = vec![1; 27];
+        }
+    }
+    assert!(broken.plan.general_in(&work).is_ok());
+}
+
+#[test]
 fn writing_in_order() {
     let mut broken = Broken::new();
     // 1(2+2) + 0 + 1 + 1(6+12) + 3 = 26 steps.
@@ -303,6 +318,8 @@ fn lengths_come_before_values_across_parts() {
     assert_eq!(call!(coefficients, plan, &[0; 27], &mut [0; 5]), 4);
     assert_eq!(plan.settle(&[0; 28], 4), Settled::Refused(4));
     assert_eq!(plan.settle(&[0; 27], 4), Settled::Refused(5));
+    assert_eq!(plan.general_in(&[9; 28]), Err(4));
+    assert_eq!(plan.general_in(&[9; 27]), Err(5));
     assert_eq!(plan.to_half(&[9; 42], &[9; 28]), Err(4));
     assert_eq!(plan.to_half(&[9; 42], &[9; 27]), Err(5));
     assert_eq!(plan.to_full(&[9; 27], &[9; 41]), Err(4));

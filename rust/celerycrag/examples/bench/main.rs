@@ -11,6 +11,7 @@ mod calls;
 mod clock;
 mod filing;
 mod flint;
+mod general;
 mod moving;
 mod plans;
 mod reading;
@@ -120,6 +121,11 @@ fn main() {
         for (case, store) in cases.iter().zip(&stores) {
             println!("{}", line(case, store));
         }
+    }
+
+    println!("\n## General plans\n\n{}", general::INTRODUCTION);
+    for plan in general::plans(most) {
+        println!("{}", general::line(&plan));
     }
 
     println!("\n## Reading back\n\n{}", reading::INTRODUCTION);

@@ -1,4 +1,4 @@
-//! Random lots for the fourteen calls, with nothing wrong and of noise, and random
+//! Random lots for the fifteen calls, with nothing wrong and of noise, and random
 //! entries with values.
 
 use super::faults::EDGES;

@@ -120,6 +120,14 @@ impl Owned {
         product(&self.radices)
     }
 
+    /// The most entries that can be new: any two products share a column, and
+    /// there are no more than L independent ones.
+    pub fn most_new(&self) -> usize {
+        let l = self.variables();
+        let q = self.t.min(l);
+        (q + 1) * l - q * q.saturating_sub(1) / 2
+    }
+
     pub fn bootstraps(&self) -> usize {
         self.m + 2 * self.t
     }

@@ -4,13 +4,14 @@
 use std::collections::BTreeMap;
 
 /// The calls with the causes that each can meet.
-pub const CAUSES: [(&str, &[u8]); 14] = [
+pub const CAUSES: [(&str, &[u8]); 15] = [
     ("check", &[1, 2, 3, 4, 5]),
     ("row", &[1, 2, 3, 4, 5, 7]),
     ("test", &[1, 2, 3, 4, 5, 6]),
     ("file", &[1, 2, 3, 4, 5, 6, 7, 8, 9]),
     ("coefficients", &[1, 2, 3, 4, 5, 6]),
     ("settle", &[1, 2, 3, 4, 5, 6, 7]),
+    ("general", &[1, 2, 3, 4, 5]),
     ("to_half", &[1, 2, 3, 4, 5, 6]),
     ("to_full", &[1, 2, 3, 4, 5, 6]),
     ("check_writing", &[1, 2, 3, 4, 5, 10]),

@@ -5,7 +5,7 @@
 use super::plans::Owned;
 use super::tally::Tally;
 use celerycrag::raw;
-use reference::{Filed, Ran, Reread, Settled};
+use reference::{Filed, General, Ran, Reread, Settled};
 use std::fmt::Debug;
 
 /// What a single number that is lent holds before the call; no call answers it.
@@ -15,14 +15,14 @@ const OLD_BYTE: u8 = 0xFE;
 /// The elements beside a slice that is lent to be written.
 const MARGIN: usize = 37;
 
-/// Everything that the fourteen calls take.
+/// Everything that the fifteen calls take.
 #[derive(Clone, Debug)]
 pub struct Lot {
     pub plan: Owned,
     pub entry: usize,
     pub value: usize,
     pub row: Vec<u8>,
-    /// What the calls on a store take, and the target of one move.
+    /// What the calls on a store take, the target of one move, and the work store.
     pub store: Vec<u8>,
     /// A store in the full layout: what that move takes, and the target of the
     /// other.
@@ -162,6 +162,69 @@ pub fn settle(plan: &Owned, store: &[u8], entry: usize, tally: &mut Tally) -> Re
     assert!(store == before, "settling wrote to the store");
     match answer {
         0 => Ok(settled),
+        number => Err(number),
+    }
+}
+
+/// The most columns of a plan that the reference is asked about whether it is
+/// general: it takes long for more.
+const GENERAL: usize = 64;
+
+/// What the reference answers. Under a plan of more columns than GENERAL the
+/// entries are filed by the library in its place, which other tests compare with
+/// it; where they are more than the columns, one depends on the others.
+fn general_by_reference(plan: &Owned, work: &mut [u8]) -> General {
+    if plan.columns_if_small() <= GENERAL {
+        return by_reference!(general, plan, work);
+    }
+    // An empty store of this length is refused for the causes 1 to 5 alone.
+    let number = by_reference!(test_store, plan, &vec![0; work.len()]);
+    if number != 0 {
+        return General::Refused(number);
+    }
+    work.fill(0);
+    match plan.entries() <= plan.columns() && is_general(plan) {
+        true => General::Yes,
+        false => General::No,
+    }
+}
+
+/// Whether each entry is new, filed by the library with the value 0.
+pub fn is_general(plan: &Owned) -> bool {
+    let mut store = plan.empty_store();
+    (0..plan.entries()).all(|entry| {
+        let mut column = OLD;
+        let answer = raw::file(plan.lent(), &mut store, entry, 0, &mut column);
+        assert_eq!(answer, 0, "entry {entry}, filed with 0");
+        column < plan.columns()
+    })
+}
+
+/// Whether the plan is general. An accepted call leaves zeros in `work`, a refused
+/// one what was there.
+pub fn general(plan: &Owned, work: &mut Vec<u8>, tally: &mut Tally) -> Result<bool, u8> {
+    let mut expected = work.clone();
+    let (number, told) = match general_by_reference(plan, &mut expected) {
+        General::Yes => (0, 1),
+        General::No => (0, 0),
+        General::Refused(number) => (number, OLD_BYTE),
+    };
+    let (after, (general, answer)) = fenced(work, 0xA5, |work| {
+        fenced(&[OLD_BYTE], 0xA5, |general| {
+            raw::general(plan.lent(), work, &mut general[0])
+        })
+    });
+    agreed("general", answer, number, tally);
+    assert_eq!(general[0], told, "whether the plan is general");
+    assert!(after == expected, "the work store");
+    let left = match answer {
+        0 => after.iter().all(|&x| x == 0),
+        _ => after == *work,
+    };
+    assert!(left, "the work store after answer {answer}");
+    *work = after;
+    match answer {
+        0 => Ok(told == 1),
         number => Err(number),
     }
 }
@@ -330,7 +393,7 @@ pub fn listing(plan: &Owned, beta: &[u8]) -> Vec<u8> {
     listing.expect("a plan and its β").into_bytes()
 }
 
-/// All fourteen calls on one lot, which stays as it is.
+/// All fifteen calls on one lot, which stays as it is.
 pub fn all(lot: &Lot, tally: &mut Tally) {
     let plan = &lot.plan;
     check(plan, tally);
@@ -339,6 +402,7 @@ pub fn all(lot: &Lot, tally: &mut Tally) {
     let _ = file(plan, &mut lot.store.clone(), lot.entry, lot.value, tally);
     coefficients(plan, &lot.store, &mut lot.beta.clone(), tally);
     let _ = settle(plan, &lot.store, lot.entry, tally);
+    let _ = general(plan, &mut lot.store.clone(), tally);
     to_half(plan, &lot.full, &mut lot.store.clone(), tally);
     to_full(plan, &lot.store, &mut lot.full.clone(), tally);
     let _ = write(plan, &lot.beta, &lot.room, tally);

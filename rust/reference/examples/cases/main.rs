@@ -6,7 +6,7 @@
 //!
 //!     cargo run --release --offline -p reference --example cases < ../crates/cases/stdin > ../crates/cases/stdout
 
-use reference::{Filed, Reread, Settled};
+use reference::{Filed, General, Reread, Settled};
 use std::fmt::Display;
 
 /// What is set, and what was printed.
@@ -116,6 +116,7 @@ impl Cases {
             ("store::settle", [entry]) => self.settle(*entry),
             ("store::to_half", []) => self.move_to_half(),
             ("store::to_full", []) => self.move_to_full(),
+            ("general::general", []) => self.general(),
             ("program::check_writing", []) => self.say("number", self.check_writing()),
             ("program::write_into", []) => self.write_into(),
             ("program::write", []) => self.write(),
@@ -175,6 +176,17 @@ impl Cases {
         self.say("number", call!(to_full, self, &self.store, &mut full));
         self.whole("full", &full);
         self.full = full;
+    }
+
+    fn general(&mut self) {
+        let mut work = self.store.clone();
+        match call!(general, self, &mut work) {
+            General::Yes => self.print("= yes\n"),
+            General::No => self.print("= no\n"),
+            General::Refused(number) => self.say("refused", number),
+        }
+        self.whole("store", &work);
+        self.store = work;
     }
 
     fn check_writing(&self) -> u32 {

@@ -4,7 +4,7 @@
 #![allow(dead_code)]
 
 use reference::random::SplitMix;
-use reference::{Filed, Ran, Reread, Settled};
+use reference::{Filed, General, Ran, Reread, Settled};
 
 /// A plan with parts of its own, checked or not.
 #[derive(Clone)]
@@ -174,6 +174,29 @@ impl Owned {
     pub fn settled(&self, store: &[u8]) -> Vec<Settled> {
         let settle = |entry| self.settle(store, entry);
         (0..self.entries()).map(settle).collect()
+    }
+
+    /// Whether the plan is general, or the number of a refusal. The work store
+    /// has these bytes before; it is all zeros afterwards, and a refused call
+    /// leaves it.
+    pub fn general_in(&self, work: &[u8]) -> Result<bool, u32> {
+        let mut after = work.to_vec();
+        let answer = match call!(general, self, &mut after) {
+            General::Yes => Ok(true),
+            General::No => Ok(false),
+            General::Refused(number) => Err(number),
+        };
+        match answer {
+            Ok(_) => assert!(after.iter().all(|&x| x == 0), "the work store is left"),
+            Err(_) => assert_eq!(after, work, "the work store of a refused call"),
+        }
+        answer
+    }
+
+    /// The same of an accepted plan in an empty work store.
+    pub fn general(&self) -> bool {
+        let answer = self.general_in(&self.empty_store());
+        answer.expect("an accepted plan")
     }
 
     pub fn beta(&self, store: &[u8]) -> Vec<u8> {

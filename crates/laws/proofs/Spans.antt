@@ -4,6 +4,8 @@
 --     combined-mul             so is a multiple of one that is
 --     combined-add             so is the sum of two
 --     combined-sum             so is a sum of multiples of equations that are
+--     combined-trans           so is a sum of multiples modulo p of equations that are
+--     combined-more            so it is of these rows and one more
 --     combined-satisfies       what satisfies the rows satisfies each sum of multiples of them
 --     span-equations           rows with the same span span the same equations
 --     span-solutions           rows with the same span have the same solutions
@@ -16,21 +18,21 @@ use mathlib.Core.Bool.{true, cond}
 use mathlib.Core.Logic.{_↔_}
 use mathlib.Core.List.{List}
 use Prim.Native.Nat.{ℕ, zero, suc, _+_, _*_, _%_, _≤_, _<_}
-use native.Mathlib.Nat.{le-step, lt-suc-self, zero-mul, one-mul, mul-comm}
+use native.Mathlib.Nat.{le-refl, le-step, lt-suc-self, zero-mul, one-mul, mul-comm, add-zero}
 use native.Mathlib.Omega.{arith}
-use lib.Dec.{eqb}
+use lib.Dec.{eqb, ltb}
 use lib.ListN.{length}
-use borrow.Author.Tests.{eq-eqb, ne-eqb}
+use borrow.Author.Tests.{eq-eqb, ne-eqb, lt-ltb, le-ltb}
 use Rattle.lists.specs.Places.{sum, at}
-use Rattle.lists.proofs.Sums.{sum-none, sum-ext, sum-add, sum-mul, sum-only}
+use Rattle.lists.proofs.Sums.{sum-suc, sum-none, sum-ext, sum-add, sum-mul, sum-only}
 use Rattle.field.specs.Primes.{oddPrime}
 use Rattle.field.specs.Residues.{Residues}
 use Rattle.field.proofs.Modular.{cong-add, cong-mul}
 use Rattle.store.specs.Elimination.{Satisfies, Solves, Reduced}
 use Rattle.store.specs.Span.{Combined, SameSpan}
 use Rattle.store.proofs.Combinations.{satisfies-cong, satisfies-sum}
 use Rattle.store.proofs.Filing.{Equation}
 use Rattle.store.proofs.Implications.{implied-sum}
 
 module _ (p C : ℕ) (A : ℕ → ℕ → ℕ) (n : ℕ) where
   pub combined-row : (q : ℕ) → q < n → Combined p C A n (A q)
@@ -76,7 +78,21 @@ module _ (p C : ℕ) (A : ℕ → ℕ → ℕ) (n : ℕ) where
       combined-add (λ j. sum (λ q. by q * B q j) m) (λ j. by m * B m j) (combined-sum B by m (λ q l. h q (le-step l)))
       (combined-mul (by m) (B m) (h m (lt-suc-self m)))
 
-  combined-satisfies : (e : ℕ → ℕ) → Combined p C A n e → (β : ℕ → ℕ) → ((q : ℕ) → q < n → Satisfies p C (A q) β) → Satisfies p C e β
+  pub combined-trans : (B : ℕ → ℕ → ℕ) (m : ℕ) (e : ℕ → ℕ) → ((q : ℕ) → q < m → Combined p C A n (B q)) → Combined p C B m e → Combined p C A n e
+  combined-trans B m e h c = combined-cong (λ j. sum (λ q. c .by q * B q j) m) e (c .sums) (combined-sum B (c .by) m h)
+
+  pub combined-more : (e : ℕ → ℕ) → Combined p C A n e → Combined p C A (suc n) e
+  combined-more e c =
+      record {
+        by = λ q. cond (ltb q n) (c .by q) 0;
+        sums = λ j l.
+            c .sums j l
+            ∙ ap (λ (k : ℕ). k % p)
+            (sum-ext (λ q. c .by q * A q j) (λ q. cond (ltb q n) (c .by q) 0 * A q j) n (λ q i. rw (lt-ltb q n i))
+            ∙ sym (sum-suc (λ q. cond (ltb q n) (c .by q) 0 * A q j) n ∙ rw (le-ltb n n (le-refl n), zero-mul (A n j)) (add-zero _)));
+      }
+
+  pub combined-satisfies : (e : ℕ → ℕ) → Combined p C A n e → (β : ℕ → ℕ) → ((q : ℕ) → q < n → Satisfies p C (A q) β) → Satisfies p C e β
   combined-satisfies e c β s =
       satisfies-cong p C β (λ j. sum (λ q. c .by q * A q j) n) e (λ j l. sym (c .sums j l)) (satisfies-sum p C β (c .by) A n s)
 
@@ -90,8 +106,8 @@ module _ (p C : ℕ) (A : ℕ → ℕ → ℕ) (a : ℕ) (B : ℕ → ℕ → �
 
   pub span-equations : SameSpan p C A a B b → (e : ℕ → ℕ) → Combined p C A a e ↔ Combined p C B b e
   span-equations h e = (
-    (λ c. combined-cong p C B b (λ j. sum (λ q. c .by q * A q j) a) e (c .sums) (combined-sum p C B b A (c .by) a (h .0))),
-    (λ c. combined-cong p C A a (λ j. sum (λ q. c .by q * B q j) b) e (c .sums) (combined-sum p C A a B (c .by) b (h .1))),
+    (λ c. combined-trans p C B b A a e (h .0) c),
+    (λ c. combined-trans p C A a B b e (h .1) c),
   )
 
   pub span-ext : (A′ : ℕ → ℕ → ℕ) → ((q j : ℕ) → q < a → j ≤ C → A′ q j ≡ A q j) → SameSpan p C A a B b → SameSpan p C A′ a B b

@@ -14,17 +14,17 @@ use Rattle.plan.specs.Causes.{first}
 use Rattle.plan.specs.Numbers.{columns, Within}
 use Rattle.plan.specs.Parts.{Given, Lent}
 use Rattle.lists.specs.Places.{at}
 use Rattle.store.specs.Elimination.{Satisfies, Solves, after, cells}
 use Rattle.store.specs.Filings.{isContradiction}
 use Rattle.store.specs.Stages.{Ready}
 use Rattle.store.specs.Calls.{equation, outcomeOf, fileCauses, filed}
 use Rattle.store.specs.Span.{withRow, Spans, OneReduced}
 use Rattle.store.proofs.Filing.{stored-reads}
-use Rattle.store.proofs.Uniqueness.{stores-equal}
-use Rattle.store.proofs.Spans.{span-solutions, span-ext}
-use Rattle.store.proofs.FilingSpans.{after-span}
+use Rattle.laws.proofs.Uniqueness.{stores-equal}
+use Rattle.laws.proofs.Spans.{span-solutions, span-ext}
+use Rattle.laws.proofs.FilingSpans.{after-span}
 use Rattle.store.proofs.EntryEquations.{equation-residues}
 use Rattle.store.proofs.Readiness.{filed-ready, unmet}
 
 module _ (G : Given) (S : List ℕ) (i v : ℕ) where
   pub one-reduced-form : Within (G .numbers) → Lent G → Ready (G .numbers .p) (columns (G .numbers)) S → v < G .numbers .s

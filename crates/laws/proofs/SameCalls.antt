@@ -8,7 +8,7 @@
 use mathlib.Core.Path.{_≡_, refl, sym, ap, ap₂, _∙_}
 use mathlib.Core.Bool.{true}
 use mathlib.Core.List.{List, [], _∷_}
-use Prim.Native.Nat.{ℕ, zero, suc, _≤_, _<_}
+use Prim.Native.Nat.{ℕ, zero, suc, _+_, _≤_, _<_}
 use native.Mathlib.Nat.{le-refl}
 use native.Mathlib.Omega.{arith}
 use lib.Dec.{eqb}
@@ -24,19 +24,19 @@ use Rattle.plan.specs.Parts.{Given, storeSize, fullSize, callCauses}
 use Rattle.plan.specs.Rows.{entryCause}
 use Rattle.plan.proofs.Refusals.{none-met}
 use Rattle.plan.proofs.Admitting.{unrefused, other-causes}
 use Rattle.store.specs.Elimination.{Reduced, isReduced, after, cells}
 use Rattle.store.specs.Calls.{equation, emptyStore, valuesOf, outcomeOf, fileCauses, filed, coefficients}
 use Rattle.store.specs.Settled as settled
 use Rattle.store.specs.Settled.{standingOf, settleCauses}
 use Rattle.store.specs.Moves.{fullCells, fullFlat, halved, widened, toHalfOwn, toFullOwn, NoLoss, fullCauses, fullOutcome, fullFileCauses, fullFileStore, fullStanding, fullCoefficients, SameCalls, filedAll, fullFiledAll, SameFilings}
 use Rattle.store.proofs.Bytes.{flat-length, flat-ext}
 use Rattle.store.proofs.ReducedForm.{isReduced-means, reduced-ext, flat-reads, flat-reduced}
-use Rattle.store.proofs.SamePlaces.{outcome-ext, after-ext, standing-ext}
 use Rattle.store.proofs.Filing.{after-reduced}
 use Rattle.store.proofs.Holding.{empty-reduced}
 use Rattle.store.proofs.EntryEquations.{equation-residues}
 use Rattle.store.proofs.Readiness.{unmet}
+use Rattle.laws.proofs.SameOutcomes.{outcome-ext, after-ext, standing-ext}
 use Rattle.store.proofs.FullLayout.{full-length, cells-full, halved-widened, widened-halved, stands-for, zeros-halved}
 
 pub no-loss : (G : Given) → NoLoss G
 no-loss G =
@@ -80,6 +80,9 @@ module _ (G : Given) where
     places : (q j : ℕ) → q < C → j ≤ C → cells C (halved C full) q j ≡ fullCells C full q j
     places = flat-reads p C (fullCells C full) red
 
+    below : (q j : ℕ) → q < C → j < C + 1 → cells C (halved C full) q j ≡ fullCells C full q j
+    below q j l k = places q j l (omega arith)
+
     both-fit : (eqb (length (halved C full)) (storeSize C) ≡ true) × (eqb (length full) (fullSize C) ≡ true)
     both-fit = (eq-eqb (length (halved C full)) (storeSize C) (flat-length C (fullCells C full)), eq-eqb (length full) (fullSize C) fits)
 
@@ -90,10 +93,10 @@ module _ (G : Given) where
     )
 
     same-outcome : outcomeOf G (halved C full) i v ≡ fullOutcome G full i v
-    same-outcome = outcome-ext p C (cells C (halved C full)) (fullCells C full) places (equation G i v)
+    same-outcome = outcome-ext p C (C + 1) (omega arith) (cells C (halved C full)) (fullCells C full) below (equation G i v) (equation G i v) (λ j l. refl) (omega arith)
 
     same-standing : standingOf G (halved C full) i ≡ fullStanding G full i
-    same-standing = standing-ext p C (cells C (halved C full)) (fullCells C full) places (equation G i 0)
+    same-standing = standing-ext p C (C + 1) (omega arith) (cells C (halved C full)) (fullCells C full) below (equation G i 0) (equation G i 0) (λ j l. refl) (omega arith)
 
     same-refusal : first (fileCauses G (halved C full) i v) ≡ first (fullFileCauses G full i v)
     unfolding callCauses
@@ -111,7 +114,7 @@ module _ (G : Given) where
     same-filed =
         flat-ext C (after p C (cells C (halved C full)) (equation G i v)) (fullCells C (fullFlat C afterwards))
         (λ q j l low k.
-        after-ext p C (cells C (halved C full)) (fullCells C full) places (equation G i v) q j l k
+        after-ext p C (C + 1) (omega arith) (cells C (halved C full)) (fullCells C full) below (equation G i v) (equation G i v) (λ j l. refl) q j l (omega arith)
         ∙ sym (cells-full C afterwards q j l k))
 
     moved : (k : ℕ) (x y : List ℕ) → x ≡ halved C y → result k x (halved C full) ≡ halved C (result k y full)

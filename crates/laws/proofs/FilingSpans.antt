@@ -2,7 +2,7 @@
 --     residual-combined        the residual is a sum of multiples of the old rows and the equation
 --     normal-combined          so is the residual made normal
 --     old-combined             so is each old row
---     resolved-combined           so is each row that a filing leaves
+--     resolved-combined        so is each row that a filing leaves, whatever it answers: `after-combined`
 --     after-span               the theorem
 -- The rows that a filing leaves are made as such sums. The other way round, every solution of the store that is left satisfies the old rows
 -- and the equation, and that store is reduced: so those are sums of multiples of its rows (`implied-combined`).
@@ -20,12 +20,12 @@ use Rattle.lists.specs.Places.{sum, at}
 use Rattle.lists.proofs.Sums.{sum-next, sum-ext}
 use Rattle.field.specs.Primes.{oddPrime}
 use Rattle.field.specs.Residues.{inverse}
 use Rattle.store.specs.Elimination.{Satisfies, Solves, Reduced, Outcome, contradiction, residual, normal, inserted, outcome, after}
 use Rattle.store.specs.Span.{Combined, SameSpan, withRow}
 use Rattle.store.proofs.Inserting.{inserted-here, inserted-there}
 use Rattle.store.proofs.Answers.{Resolved, resolved-new, resolved-implied, resolved-contradiction, resolves}
 use Rattle.store.proofs.Filing.{Equation, after-reduced, after-solves}
-use Rattle.store.proofs.Spans.{combined-row, combined-cong, combined-mul, combined-add, implied-combined}
+use Rattle.laws.proofs.Spans.{combined-row, combined-cong, combined-mul, combined-add, implied-combined}
 
 module _ (p C : ℕ) (S : ℕ → ℕ → ℕ) (e : ℕ → ℕ) where
   residual-combined : Combined p C (withRow C S e) (C + 1) (residual p C S e)
@@ -74,10 +74,13 @@ module _ (p C : ℕ) (S : ℕ → ℕ → ℕ) (e : ℕ → ℕ) where
   resolved-combined (resolved-implied z) q k = old-combined q k
   resolved-combined (resolved-contradiction z d) q k = old-combined q k
 
+pub after-combined : (p C : ℕ) (S : ℕ → ℕ → ℕ) (e : ℕ → ℕ) (q : ℕ) → q < C → Combined p C (withRow C S e) (C + 1) (after p C S e q)
+after-combined p C S e = resolved-combined p C S e (resolves p C S e)
+
 pub after-span : (p C : ℕ) → oddPrime p ≡ true → (S : ℕ → ℕ → ℕ) (e : ℕ → ℕ) → Reduced p C S → Equation p C e → outcome p C S e ≢ contradiction
     → SameSpan p C (after p C S e) C (withRow C S e) (C + 1)
 after-span p C prime S e red eqn kept = (
-  resolved-combined p C S e (resolves p C S e),
+  after-combined p C S e,
   (λ q l. elim (decLt q C) [
     | yes k ↦
         rw (lt-ltb q C k)

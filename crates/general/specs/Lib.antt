@@ -1,0 +1,2 @@
+-- Which plans suit every table.
+pub mod Suits

@@ -1,0 +1,2 @@
+-- How many filings can be New.
+pub mod Rank
