@@ -4,22 +4,20 @@
 --     half-below       what is subtracted is not more than what it is subtracted from
 --     most-is          (q + 1) L + q - q (q + 1) / 2 is (q + 1) L - q (q - 1) / 2
 -- Assumes nothing.
-use mathlib.Core.Path.{_≡_, refl, ap}
+use mathlib.Core.Path.{_≡_, refl}
 use Prim.Native.Nat.{ℕ, zero, suc, _+_, _-_, _*_, _/_, _≤_}
-use native.Mathlib.Nat.{le-refl, mul-le-mul, mul-le-mul-right}
-use native.Mathlib.Decide.{decLt}
+use native.Mathlib.Nat.{mul-le-mul, mul-le-mul-right}
 use native.Mathlib.Omega.{arith}
-use borrow.Author.Tests.{lt-ltb, le-ltb}
 use Rattle.plan.specs.declared.numbers.Plan.{Plan}
 use Rattle.plan.specs.Numbers.{variables, Within}
 use Rattle.laws.specs.Rank.{rowsMost}
+use Rattle.laws.proofs.RankBound.{smaller-below}
 
 pub rows-limit : (P : Plan) → Within P → (rowsMost P ≤ 32) × (rowsMost P ≤ variables P)
 unfolding rowsMost
-rows-limit P within = elim (decLt (P .t) (variables P)) [
-  | yes l ↦ rw (lt-ltb (P .t) (variables P) l) (within .products-limit, omega arith)
-  | no l ↦ rw (le-ltb (P .t) (variables P) (omega arith)) (omega (arith, within .products-limit), le-refl (variables P))
-]
+rows-limit P within =
+    let least = smaller-below (P .t) (variables P) in
+    (omega (arith, least .0, within .products-limit), least .1)
 
 pub product-limit : (a b : ℕ) → a ≤ 33 → b ≤ 64 → a * b ≤ 2112
 product-limit a b h k = mul-le-mul h k

@@ -1,6 +1,5 @@
 -- The loop of the test: the work store is the one after so many entries, filed with value 0, and each was New.
 --     empty-length, filed-length       the length of the work store, empty and after a filing
---     positive                 p is not 0
 --     ranked-after             while each was New, the store has as many pivots as entries were filed, and is ready for the next
 --     too-many                 with more entries than can be New, not each is
 --     Going                    the state of the loop
@@ -56,9 +55,6 @@ unfolding filed
 filed-length G work i v =
     flat-length (columns (G .numbers)) (after (G .numbers .p) (columns (G .numbers)) (cells (columns (G .numbers)) work) (equation G i v))
 
-pub positive : {P : Plan} → Within P → 0 < P .p
-positive within = omega (arith, prime-low within)
-
 module _ (G : Given) (fine : Within (G .numbers)) (lent : Lent G) where
   pub ranked-after : (i : ℕ) → every (wasNew G) i ≡ true → Ranked G (workAfter G i) i
   unfolding workAfter every
@@ -66,7 +62,7 @@ module _ (G : Given) (fine : Within (G .numbers)) (lent : Lent G) where
   ranked-after (suc i) e =
       let b = both-true (every (wasNew G) i) (wasNew G i) e in
       let more : i + newly (outcomeOf G (workAfter G i) i 0) ≡ suc i = omega (arith, counts-one (outcomeOf G (workAfter G i) i 0) (b .1)) in
-      subst (Ranked G (filed G (workAfter G i) i 0)) more (ranked-filed G fine lent (workAfter G i) i i 0 (positive fine) (ranked-after i (b .0)))
+      subst (Ranked G (filed G (workAfter G i) i 0)) more (ranked-filed G fine lent (workAfter G i) i i 0 (omega (arith, prime-low fine)) (ranked-after i (b .0)))
 
   pub too-many : mostNew (G .numbers) < product (G .radices) → false ≡ isGeneral G
   unfolding isGeneral

@@ -1,4 +1,5 @@
 -- At most `mostNew` filings can be New under a plan.
+--     smaller-below, smaller-least      the smaller of two numbers
 --     ends                  a column of a product's block at which a relation ends has no pivot
 --     stale-block           where d row b is a sum of multiples of those before, block b has no pivot
 --     fresh-block           else it has at most L less the pivots of the d rows before it
@@ -54,6 +55,18 @@ sum-back f (suc n) =
     let rest : sum (λ j. f (suc n - 1 - (1 + j))) n ≡ sum (λ j. f (n - 1 - j)) n =
     sum-ext (λ j. f (suc n - 1 - (1 + j))) (λ j. f (n - 1 - j)) n (λ j l. ap f (omega arith)) in
     omega (arith, ap (sum (λ j. f (suc n - 1 - j))) (sym count), turned, first, rest, sum-back f n, sum-suc f n)
+
+pub smaller-below : (a b : ℕ) → (cond (ltb a b) a b ≤ a) × (cond (ltb a b) a b ≤ b)
+smaller-below a b = elim (decLt a b) [
+  | yes l ↦ rw (lt-ltb a b l) (le-refl a, omega arith)
+  | no l ↦ rw (le-ltb a b (omega arith)) (omega arith, le-refl b)
+]
+
+smaller-least : (r a b : ℕ) → r ≤ a → r ≤ b → r ≤ cond (ltb a b) a b
+smaller-least r a b h k = elim (decLt a b) [
+  | yes l ↦ rw (lt-ltb a b l) h
+  | no l ↦ rw (le-ltb a b (omega arith)) k
+]
 
 -- r L - r (r - 1) / 2 grows with r up to L
 bound-grows : (r k L : ℕ) → r + (r + k) ≤ 2 * L → 2 * (r * L) + r + (r + k) * (r + k) ≤ 2 * ((r + k) * L) + (r + k) + r * r
@@ -190,7 +203,7 @@ module _ (P : Plan) (d : List ℕ) (prime : oddPrime (P .p) ≡ true) (residues 
   unfolding mostNew pivots inBlock dPivots rowsMost
   pivots-bound =
       counted-most (pivots (columns P) S) (sum inBlock (P .t)) (inBlock (P .t)) (dPivots (P .t)) (rowsMost P) (variables P) total last (all .sums)
-      (rows-most (dPivots (P .t)) (all .rows) few .0) (rows-most (dPivots (P .t)) (all .rows) few .1)
+      (smaller-least (dPivots (P .t)) (P .t) (variables P) (all .rows) few) (smaller-below (P .t) (variables P) .1)
     where
       all : Counted (P .t)
       all = blocks-count (P .t) (le-refl (P .t))
@@ -203,12 +216,6 @@ module _ (P : Plan) (d : List ℕ) (prime : oddPrime (P .p) ≡ true) (residues 
 
       few : dPivots (P .t) ≤ variables P
       few = pivots-most (variables P) (filedRows P d (P .t))
-
-      rows-most : (r : ℕ) → r ≤ P .t → r ≤ variables P → (r ≤ rowsMost P) × (rowsMost P ≤ variables P)
-      rows-most r a b = elim (decLt (P .t) (variables P)) [
-        | yes l ↦ rw (lt-ltb (P .t) (variables P) l) (a, omega arith)
-        | no l ↦ rw (le-ltb (P .t) (variables P) (omega arith)) (b, le-refl (variables P))
-      ]
 
 -- a store under a plan, and how many of the filings that made it were New
 pub record Ranked (G : Given) (S : List ℕ) (k : ℕ) : Type 0 where

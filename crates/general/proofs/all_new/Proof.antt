@@ -8,7 +8,8 @@ use borrow.Author.Needs.{needs}
 use borrow.Author.Tests.{not-true, not-false}
 use Rattle.plan.specs.Numbers.{product}
 use Rattle.plan.specs.Parts.{Given, lend}
-use Rattle.general.proofs.Working.{positive, empty-length, filed-length, Going, too-many, going-none, going-ranked, going-not, going-next, going-all}
+use Rattle.plan.proofs.Bounds.{prime-low}
+use Rattle.general.proofs.Working.{empty-length, filed-length, Going, too-many, going-none, going-ranked, going-not, going-next, going-all}
 use Rattle.general.proofs.all_new.Statement.{statement}
 use Rattle.general.proofs.all_new.Tie as tie
 
@@ -28,7 +29,7 @@ lent c =
 
 -- the entry of a turn is in range
 near : (c : tie.In-loop Inv-loop μ-loop) → c .before .loop .i < product (start (c .before .before .before .before) .args .radices .now)
-near c = rw (c .before .before .before .before .entries .ensures) at (c .loop-test .taken)
+near c = omega (arith, c .before .before .before .before .entries .ensures)
 
 entries-requires : tie.Need-entries-requires Inv-loop μ-loop
 entries-requires c κs = c .before .before .before .before .before .pre .1 .0 .radices
@@ -40,7 +41,7 @@ same-length : tie.Need-same-length Inv-loop μ-loop
 same-length c =
     let filed = c .before .before .before .before in
     let s = start (filed .before .before .before .before .before .before) in
-    ap length (filed .file-entry .ensures .1) ∙ filed-length (lent s) _ _ 0 ∙ sym (empty-length (s .args .plan) _ (s .pre .1 .1))
+    ap length (filed .file-entry .ensures .1) ∙ filed-length (lent s) _ _ _ ∙ sym (empty-length (s .args .plan) _ (s .pre .1 .1))
 
 returns : tie.Need-returns Inv-loop μ-loop
 returns c =
@@ -57,7 +58,7 @@ file-entry-requires c κs =
     let turn = c .before .before in
     let s = start (turn .before .before .before) in
     let r = going-ranked (lent s) (s .pre .0) (s .pre .1 .0) _ _ (turn .loop .inv) in
-    (s .pre .0, (s .pre .1 .0, (r .ready, positive (s .pre .0))))
+    (s .pre .0, (s .pre .1 .0, (r .ready, omega (arith, prime-low (s .pre .0)))))
 
 is-new-requires : tie.Need-is-new-requires Inv-loop μ-loop
 is-new-requires c κs = search needs
