@@ -3,7 +3,6 @@
 --     suits-all          if each entry is New with the value 0, every table has coefficients (`Tables`): those of the table modulo p
 --     all-new            if every table has coefficients, each entry is New with the value 0: take the table that is 1 there and else 0
 --     general            the theorem
---     never-general      a plan with more entries than can be New does not suit every table
 -- Assumes nothing.
 use mathlib.Core.Path.{_≡_, refl, sym, ap, _∙_}
 use mathlib.Core.Bool.{Bool, true, false, cond, true≢false, not-eq-not}
@@ -27,9 +26,8 @@ use Rattle.store.specs.Filings.{isNew}
 use Rattle.store.specs.Calls.{outcomeOf, filed}
 use Rattle.store.proofs.Filing.{above-one, positive}
 use Rattle.store.proofs.ReadingOff.{solution, solution-length, solution-residues}
-use Rattle.laws.specs.Rank.{mostNew}
 use Rattle.general.specs.Suits.{workAfter, isGeneral, generalAnswer}
-use Rattle.general.proofs.Working.{too-many}
+use Rattle.general.proofs.Working.{wasNew}
 use Rattle.demands.specs.Demand3.{Accepted}
 use Rattle.demands.specs.General.{SuitsAll, General}
 use Rattle.demands.proofs.Turns.{within, lent}
@@ -41,12 +39,8 @@ unfolding workAfter tableAfter
 work-is G zero = refl
 work-is G (suc i) = ap (λ (S : List ℕ). filed G S i 0) (work-is G i)
 
--- what the test asks of entry i
-abbrev asked : Given → ℕ → Bool
-asked G i = isNew (outcomeOf G (workAfter G i) i 0)
-
-asked-is : (G : Given) (i : ℕ) → asked G i ≡ isNew (outcomeAt G zeros i)
-asked-is G i = ap (λ (S : List ℕ). isNew (outcomeOf G S i 0)) (work-is G i)
+was-new : (G : Given) (i : ℕ) → wasNew G i ≡ isNew (outcomeAt G zeros i)
+was-new G i = ap (λ (S : List ℕ). isNew (outcomeOf G S i 0)) (work-is G i)
 
 -- yes and no, as they are answered
 abbrev said : Bool → Answer
@@ -77,7 +71,7 @@ module _ (G : Given) (accepted : Accepted G) where
         residues = solution-residues (G .numbers .p) C S (ready G (within G accepted) (lent G accepted) f′ small (product (G .radices)) .reduced) pos;
         each = λ i l.
             table-solved G (within G accepted) (lent G accepted) f′ small (product (G .radices))
-            (λ k b. sym (asked-is G k) ∙ every-at (asked G) (product (G .radices)) h k b) i l
+            (λ k b. sym (was-new G k) ∙ every-at (wasNew G) (product (G .radices)) h k b) i l
             ∙ mod-mod (f i) (G .numbers .p);
       }
     where
@@ -96,11 +90,11 @@ module _ (G : Given) (accepted : Accepted G) where
       β : List ℕ
       β = solution C S
 
-  all-new : SuitsAll G → isGeneral G ≡ true
+  pub all-new : SuitsAll G → isGeneral G ≡ true
   unfolding isGeneral unit
-  all-new h = every-of (asked G) (product (G .radices)) (λ i l.
+  all-new h = every-of (wasNew G) (product (G .radices)) (λ i l.
       let c = h (unit i) (λ k b. table i k) in
-      asked-is G i
+      was-new G i
       ∙ new-reached G (within G accepted) (lent G accepted) i (c .list)
       (λ k b. c .each k (omega arith) ∙ rw (ne-eqb k i (λ e. omega arith)))
       (λ z. absurd (omega (arith, cong-residue (G .numbers .p) pos (above-one (G .numbers .p) (within G accepted .prime)) (sym z ∙ c .each i l ∙ rw (eq-eqb i i refl))))))
@@ -126,6 +120,3 @@ module _ (G : Given) (accepted : Accepted G) where
             (λ none. general-says ∙ ap said (not-eq-not {a = isGeneral G} {b = false} .0 (λ h. none (suits-all h)))),
           );
         }
-
-  pub never-general : mostNew (G .numbers) < product (G .radices) → SuitsAll G → ⊥
-  never-general l h = true≢false (sym (all-new h) ∙ sym (too-many G (within G accepted) (lent G accepted) l))

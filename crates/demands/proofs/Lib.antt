@@ -1,5 +1,5 @@
 -- The proof of demand 3: the state that a list of calls keeps, one turn, whole lists, and the program. Then what settling answers after a list,
--- which plans suit every table, how many calls of a list are answered New, and the tables of cases.
+-- which plans suit every table, which shapes have none, how many calls of a list are answered New, and the tables of cases.
 pub mod Turns
 pub mod Lists
 pub mod Programs
@@ -7,6 +7,7 @@ pub mod Demand3
 pub mod Settlement
 pub mod Tables
 pub mod General
+pub mod Hopeless
 pub mod News
 pub mod Cases
 pub mod GeneralCases

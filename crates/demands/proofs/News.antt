@@ -1,6 +1,6 @@
 -- However entries are filed from an empty store under an accepted plan, at most `mostNew` of the calls are answered New.
 --     new-most      the theorem, over every list of filings
--- A call that is kept leaves a store of rank k, or k + 1 where it was New (`RankBound` of `laws`); any other leaves the store. Assumes nothing.
+-- A call that is kept leaves a store of rank k, or k + 1 where it was New (`Ranks` of `laws`); any other leaves the store. Assumes nothing.
 use mathlib.Core.Path.{_≡_, refl}
 use mathlib.Core.Bool.{cond}
 use mathlib.Core.List.{List, [], _∷_}
@@ -15,7 +15,7 @@ use Rattle.store.specs.Filings.{isNew}
 use Rattle.store.specs.Calls.{outcomeOf, fileCauses, valuesOf, filed}
 use Rattle.store.proofs.Readiness.{unmet}
 use Rattle.laws.specs.Rank.{mostNew}
-use Rattle.laws.proofs.RankBound.{Ranked, ranked-empty, ranked-filed, ranked-most}
+use Rattle.laws.proofs.Ranks.{Ranked, ranked-empty, ranked-filed, ranked-most}
 use Rattle.general.specs.Suits.{saysNew}
 use Rattle.demands.specs.Demand3.{Accepted, Filing, ours, other, call, refusal, answer, storeAfter, emptyStore}
 use Rattle.demands.specs.General.{newOf}

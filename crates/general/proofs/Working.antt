@@ -6,7 +6,7 @@
 --     going-none, going-next, going-not, going-all       before the first entry; one that is New; one that is not; after the last
 -- Assumes nothing.
 use mathlib.Core.Path.{_≡_, refl, sym, ap, subst, _∙_}
-use mathlib.Core.Bool.{Bool, true, false, true≢false, not-eq-not}
+use mathlib.Core.Bool.{Bool, true, false, cond, true≢false, not-eq-not}
 use mathlib.Core.List.{List}
 use Prim.Native.Nat.{ℕ, zero, suc, _+_, _≤_, _<_}
 use native.Mathlib.Numerals.{add-one}
@@ -24,7 +24,7 @@ use Rattle.store.specs.Filings.{isNew}
 use Rattle.store.specs.Calls.{equation, emptyStore, outcomeOf, answered, filed}
 use Rattle.store.proofs.Bytes.{flat-length}
 use Rattle.laws.specs.Rank.{mostNew}
-use Rattle.laws.proofs.RankBound.{Ranked, ranked-empty, ranked-filed, ranked-most}
+use Rattle.laws.proofs.Ranks.{Ranked, ranked-empty, ranked-filed, ranked-most}
 use Rattle.laws.proofs.Pivots.{newly}
 use Rattle.general.specs.Suits.{workAfter, isGeneral, saysNew}
 
@@ -36,11 +36,6 @@ new-said : (o : Outcome) → saysNew (answered o) ≡ isNew o
 new-said (new c) = refl
 new-said implied = refl
 new-said contradiction = refl
-
-counts-one : (o : Outcome) → isNew o ≡ true → newly o ≡ 1
-counts-one (new c) e = refl
-counts-one implied e = absurd (true≢false (sym e))
-counts-one contradiction e = absurd (true≢false (sym e))
 
 pub record Going (G : Given) (work : List ℕ) (i : ℕ) : Type 0 where
   pub within : i ≤ product (G .radices)
@@ -61,7 +56,7 @@ module _ (G : Given) (fine : Within (G .numbers)) (lent : Lent G) where
   ranked-after zero e = ranked-empty G fine
   ranked-after (suc i) e =
       let b = both-true (every (wasNew G) i) (wasNew G i) e in
-      let more : i + newly (outcomeOf G (workAfter G i) i 0) ≡ suc i = omega (arith, counts-one (outcomeOf G (workAfter G i) i 0) (b .1)) in
+      let more : i + newly (outcomeOf G (workAfter G i) i 0) ≡ suc i = omega (arith, ap (λ (n : Bool). cond n 1 0) (b .1)) in
       subst (Ranked G (filed G (workAfter G i) i 0)) more (ranked-filed G fine lent (workAfter G i) i i 0 (omega (arith, prime-low fine)) (ranked-after i (b .0)))
 
   pub too-many : mostNew (G .numbers) < product (G .radices) → false ≡ isGeneral G

@@ -11,3 +11,4 @@ pub mod Relations
 pub mod DRows
 pub mod WastedColumns
 pub mod RankBound
+pub mod Ranks

@@ -1,19 +1,17 @@
--- At most `mostNew` filings can be New under a plan.
+-- A store whose rows obey every relation that the d rows make has at most `mostNew` pivots.
 --     smaller-below, smaller-least      the smaller of two numbers
 --     ends                  a column of a product's block at which a relation ends has no pivot
 --     stale-block           where d row b is a sum of multiples of those before, block b has no pivot
 --     fresh-block           else it has at most L less the pivots of the d rows before it
 --     blocks-count          so the first b blocks together have at most r L - r (r - 1) / 2, where r are the pivots of the first b d rows
---     pivots-bound          a store whose rows obey every relation has at most `mostNew` pivots
---     Ranked G S k          a store under a plan after k filings that were New, whatever else was filed
---     ranked-empty, ranked-filed, ranked-most      none filed; one more filed; k is at most `mostNew`
+--     pivots-bound          so all blocks together, with the L columns of the last, have at most `mostNew`: the theorem
 -- Assumes nothing.
-use mathlib.Core.Path.{_≡_, refl, sym, ap, ap₂, subst, _∙_}
+use mathlib.Core.Path.{_≡_, refl, sym, ap, _∙_}
 use mathlib.Core.Bool.{true, cond}
-use mathlib.Core.Logic.{⊎-elim, _≢_}
+use mathlib.Core.Logic.{⊎-elim}
 use mathlib.Core.List.{List}
 use Prim.Native.Nat.{ℕ, zero, suc, _+_, _-_, _*_, _/_, _%_, _≤_, _<_}
-use native.Mathlib.Nat.{le-refl, le-of-lt, mod-lt, mod-add-div', mul-le-mul-right, add-zero, zero-add}
+use native.Mathlib.Nat.{le-refl, le-of-lt, mod-lt, mod-add-div', mul-le-mul-right, zero-add}
 use native.Mathlib.Decide.{decLt, ℕ-discrete}
 use native.Mathlib.Omega.{arith}
 use lib.Dec.{eqb, ltb}
@@ -24,22 +22,13 @@ use Rattle.lists.proofs.Tabs.{tab-at}
 use Rattle.field.specs.Primes.{oddPrime}
 use Rattle.field.specs.Residues.{Residues}
 use Rattle.plan.specs.declared.numbers.Plan.{Plan}
-use Rattle.plan.specs.Numbers.{variables, columns, Within}
-use Rattle.plan.specs.Parts.{Given, Lent}
-use Rattle.plan.specs.Rows.{values}
-use Rattle.plan.proofs.Reproduction.{row-times}
-use Rattle.store.specs.Elimination.{Pivot, Reduced, after, cells, flat}
+use Rattle.plan.specs.Numbers.{variables, columns}
+use Rattle.store.specs.Elimination.{Reduced}
 use Rattle.store.specs.Span.{Combined}
-use Rattle.store.specs.Stages.{Ready}
-use Rattle.store.specs.Calls.{equation, emptyStore, outcomeOf, filed}
-use Rattle.store.proofs.Combinations.{satisfies-ext, satisfies-zero}
-use Rattle.store.proofs.Filing.{above-one, positive, stored-reads}
-use Rattle.store.proofs.EntryEquations.{coefficient, right-hand, equation-residues, satisfies-exactly}
-use Rattle.store.proofs.Holding.{zeros-read}
-use Rattle.store.proofs.Readiness.{empty-ready, filed-ready}
+use Rattle.store.proofs.Filing.{above-one, positive}
 use Rattle.laws.specs.Rank.{rowsMost, mostNew}
-use Rattle.laws.proofs.Pivots.{mark, mark-most, mark-zero, pivots, newly, pivots-empty, pivots-most, pivots-after}
-use Rattle.laws.proofs.Relations.{level, level-below, level-last, Obeys, obeys-after, relation-ends}
+use Rattle.laws.proofs.Pivots.{mark, mark-most, mark-zero, pivots, pivots-empty, pivots-most}
+use Rattle.laws.proofs.Relations.{Obeys, relation-ends}
 use Rattle.laws.proofs.DRows.{mirrored, filedRows, DStore, dStore, Next, fresh, stale, next}
 use Rattle.laws.proofs.WastedColumns.{Relation, blockPart, relation, part-here, part-above, relation-at, d-relation, stale-relation}
 
@@ -216,68 +205,3 @@ module _ (P : Plan) (d : List ℕ) (prime : oddPrime (P .p) ≡ true) (residues 
 
       few : dPivots (P .t) ≤ variables P
       few = pivots-most (variables P) (filedRows P d (P .t))
-
--- a store under a plan, and how many of the filings that made it were New
-pub record Ranked (G : Given) (S : List ℕ) (k : ℕ) : Type 0 where
-  pub ready : Ready (G .numbers .p) (columns (G .numbers)) S
-  pub obeys : (γ : List ℕ) → Relation (G .numbers) (G .products) γ → (q : ℕ) → q < columns (G .numbers)
-      → Obeys (G .numbers .p) (columns (G .numbers)) (at γ) (cells (columns (G .numbers)) S q)
-  pub count : pivots (columns (G .numbers)) (cells (columns (G .numbers)) S) ≡ k
-
-module _ (G : Given) (within : Within (G .numbers)) where
-  pub ranked-empty : Ranked G (emptyStore (G .numbers)) 0
-  unfolding pivots
-  ranked-empty =
-      record {
-        ready = empty-ready (G .numbers) within;
-        obeys = λ γ r q l. satisfies-zero _ _ (at γ) _ (λ j k. elim (decLt j (columns (G .numbers))) [
-          | yes i ↦ level-below (columns (G .numbers)) _ j i ∙ sym (zeros-read (columns (G .numbers)) q j)
-          | no i ↦ let last : j ≡ columns (G .numbers) = omega arith in rw last (level-last (columns (G .numbers)) _)
-        ]);
-        count = sum-none _ (columns (G .numbers)) (λ q l. mark-zero _ (sym (zeros-read (columns (G .numbers)) q q)));
-      }
-
-  module _ (lent : Lent G) (S : List ℕ) (k i v : ℕ) (small : v < G .numbers .p) (h : Ranked G S k) where
-    T : ℕ → ℕ → ℕ
-    T = after (G .numbers .p) (columns (G .numbers)) (cells (columns (G .numbers)) S) (equation G i v)
-
-    reads : (q j : ℕ) → q < columns (G .numbers) → j ≤ columns (G .numbers) → cells (columns (G .numbers)) (filed G S i v) q j ≡ T q j
-    unfolding filed T
-    reads = stored-reads (G .numbers .p) (columns (G .numbers)) (within .prime) S (equation G i v) (h .ready .reduced) (equation-residues G i v within lent small)
-
-    -- an entry's row obeys every relation, whatever its value
-    entry-obeys : (γ : List ℕ) → Relation (G .numbers) (G .products) γ → Obeys (G .numbers .p) (columns (G .numbers)) (at γ) (equation G i v)
-    entry-obeys γ r =
-        satisfies-ext (G .numbers .p) (columns (G .numbers)) (equation G i 0) (level (columns (G .numbers)) (equation G i v)) (at γ) (at γ)
-        (λ j l. elim (decLt j (columns (G .numbers))) [
-          | yes a ↦ coefficient G i 0 j a ∙ sym (level-below (columns (G .numbers)) (equation G i v) j a ∙ coefficient G i v j a)
-          | no a ↦
-              let last : j ≡ columns (G .numbers) = omega arith in
-              rw last (right-hand G i 0 ∙ sym (level-last (columns (G .numbers)) (equation G i v)))
-        ])
-        (λ j l. refl)
-        (satisfies-exactly G i 0 γ .1 (row-times G γ i ∙ r (values G i)))
-
-    pub ranked-filed : Ranked G (filed G S i v) (k + newly (outcomeOf G S i v))
-    unfolding T pivots level
-    ranked-filed =
-        record {
-          ready = filed-ready G S i v within lent small (h .ready);
-          obeys = λ γ r q l.
-              satisfies-ext (G .numbers .p) (columns (G .numbers)) (level (columns (G .numbers)) (T q)) (level (columns (G .numbers)) (cells (columns (G .numbers)) (filed G S i v) q)) (at γ) (at γ)
-              (λ j a. same q l j a) (λ j a. refl)
-              (obeys-after (G .numbers .p) (columns (G .numbers)) (at γ) (cells (columns (G .numbers)) S) (equation G i v) (h .obeys γ r) (entry-obeys γ r) q l);
-          count =
-              sum-ext (λ q. mark (cells (columns (G .numbers)) (filed G S i v) q q)) (λ q. mark (T q q)) (columns (G .numbers)) (λ q l. ap mark (reads q q l (le-of-lt l)))
-              ∙ pivots-after (G .numbers .p) (columns (G .numbers)) (within .prime) (cells (columns (G .numbers)) S) (equation G i v) (h .ready .reduced) (equation-residues G i v within lent small)
-              ∙ ap (λ (n : ℕ). n + newly (outcomeOf G S i v)) (h .count);
-        }
-      where
-        same : (q : ℕ) → q < columns (G .numbers) → (j : ℕ) → j ≤ columns (G .numbers)
-            → level (columns (G .numbers)) (T q) j ≡ level (columns (G .numbers)) (cells (columns (G .numbers)) (filed G S i v) q) j
-        same q l j a = ap (λ (n : ℕ). cond (ltb j (columns (G .numbers))) n 0) (sym (reads q j l a))
-
-  pub ranked-most : Lent G → (S : List ℕ) (k : ℕ) → Ranked G S k → k ≤ mostNew (G .numbers)
-  ranked-most lent S k h =
-      rw (sym (h .count))
-      (pivots-bound (G .numbers) (G .products) (within .prime) (lent .products-residues) (cells (columns (G .numbers)) S) (h .ready .reduced) (h .obeys))

@@ -1,8 +1,9 @@
 // The store: reduced form, filing, which outputs are settled, reading off, and the moves from the layout before and back.
 //
 // A host or a program calls `test`, `file`, `settle`, `coefficients`, `to_half` and `to_full`, which take any numbers and bytes. `text` calls
-// `read_off` too, on a store that it knows to be in reduced form, and `general` calls `file_entry` on such a store. How long a store is, is asked of `store_size`. Stands on `plan` and `field`.
-// Renders 01, "The store" and causes 6 to 9; 02, C-11 to C-13 and C-16; the theory of elimination is in proofs/.
+// `read_off` too, and `general` calls `file_entry`, on a store that they know to be in reduced form. How long a store is, is asked of
+// `store_size`. Stands on `plan` and `field`. Renders 01, "The store" and causes 6 to 9; 02, C-11 to C-13 and C-16; the theory of elimination is
+// in proofs/, and what follows from it of rows, moves and ranks in `laws`.
 mod calls;
 mod elimination;
 mod moving;

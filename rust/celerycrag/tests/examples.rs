@@ -1,10 +1,11 @@
 //! The plan texts of examples/ through the wrapper: each files its whole
 //! table, its program is the listing that is kept beside it, and the
-//! coefficients are read back from both.
+//! coefficients are read back from both. Then which of the plans suit every
+//! other table too.
 
 use celerycrag::{Plan, Program, Shape, Store};
 use std::fs;
-use std::path::Path;
+use std::path::{Path, PathBuf};
 
 const DIRECTORY: &str = concat!(env!("CARGO_MANIFEST_DIR"), "/../../examples");
 
@@ -19,9 +20,8 @@ fn bytes<'a>(lines: impl Iterator<Item = &'a str>) -> Vec<u8> {
     lines.flat_map(numbers).map(|x| x as u8).collect()
 }
 
-/// What the filing program prints for a plan text.
-fn listing(text: &str) -> String {
-    let lines: Vec<&str> = text.lines().collect();
+/// The plan of a text, given its lines, and the lines behind it.
+fn plan_of<'a>(lines: &'a [&'a str]) -> (Plan, &'a [&'a str]) {
     let values = numbers(lines[1]);
     let [p, s, n, m, t] = values[..].try_into().expect("five numbers");
     let (links, rest) = lines[3..].split_at(2 * m);
@@ -33,7 +33,14 @@ fn listing(text: &str) -> String {
         bytes(links.iter().copied().skip(1).step_by(2)),
         bytes(products.iter().copied()),
     );
-    let plan = plan.expect("a plan");
+    (plan.expect("a plan"), entries)
+}
+
+/// What the filing program prints for a plan text.
+fn listing(text: &str) -> String {
+    let lines: Vec<&str> = text.lines().collect();
+    let (plan, entries) = plan_of(&lines);
+    let Shape { m, t, .. } = plan.shape();
 
     let mut store = Store::new(&plan);
     let table: Vec<Vec<usize>> = entries[1..].iter().map(|line| numbers(line)).collect();
@@ -62,18 +69,40 @@ fn listing(text: &str) -> String {
     out
 }
 
+/// Every text with its name and the listing beside it.
+fn examples() -> Vec<(String, String, String)> {
+    let files = fs::read_dir(DIRECTORY).expect("examples/");
+    let paths = files.map(|file| file.expect("a file").path());
+    let read = |path: &Path| fs::read_to_string(path).expect("a text");
+    let texts = paths.filter(|path| path.extension() == Some("txt".as_ref()));
+    let example = |path: PathBuf| {
+        let name = path.file_stem().expect("a name").to_string_lossy();
+        let out = read(&path.with_extension("out"));
+        (name.into_owned(), read(&path), out)
+    };
+    let examples: Vec<_> = texts.map(example).collect();
+    assert!(examples.len() >= 17, "only {} examples", examples.len());
+    examples
+}
+
 #[test]
 fn every_example_gives_its_listing() {
-    let mut checked = 0;
-    for file in fs::read_dir(DIRECTORY).expect("examples/") {
-        let path = file.expect("a file").path();
-        if path.extension() != Some("txt".as_ref()) {
-            continue;
-        }
-        let read = |path: &Path| fs::read_to_string(path).expect("a text");
-        let (text, out) = (read(&path), read(&path.with_extension("out")));
-        assert_eq!(listing(&text), out, "{}", path.display());
-        checked += 1;
+    for (name, text, out) in examples() {
+        assert_eq!(listing(&text), out, "{name}");
     }
-    assert!(checked >= 17, "only {checked} examples");
+}
+
+/// The plan of AES was drawn in a shape with room for all its entries, and suits
+/// every table. XOR's has room too, but no link. All others were made for their
+/// tables, and have more entries than can be new.
+#[test]
+fn which_plans_suit_every_table() {
+    for (name, text, _) in examples() {
+        let lines: Vec<&str> = text.lines().collect();
+        let (plan, _) = plan_of(&lines);
+        let aes = name.starts_with("aes");
+        assert_eq!(plan.is_general(), Ok(aes), "{name}");
+        let room = plan.entries() <= plan.most_new();
+        assert_eq!(room, aes || name == "xor", "{name}");
+    }
 }
