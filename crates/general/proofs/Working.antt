@@ -6,7 +6,7 @@
 --     going-none, going-next, going-not, going-all       before the first entry; one that is New; one that is not; after the last
 -- Assumes nothing.
 use mathlib.Core.Path.{_≡_, refl, sym, ap, subst, _∙_}
-use mathlib.Core.Bool.{Bool, true, false, cond, true≢false, not-eq-not}
+use mathlib.Core.Bool.{Bool, true, false, true≢false, not-eq-not}
 use mathlib.Core.List.{List}
 use Prim.Native.Nat.{ℕ, zero, suc, _+_, _≤_, _<_}
 use native.Mathlib.Numerals.{add-one}
@@ -56,7 +56,8 @@ module _ (G : Given) (fine : Within (G .numbers)) (lent : Lent G) where
   ranked-after zero e = ranked-empty G fine
   ranked-after (suc i) e =
       let b = both-true (every (wasNew G) i) (wasNew G i) e in
-      let more : i + newly (outcomeOf G (workAfter G i) i 0) ≡ suc i = omega (arith, ap (λ (n : Bool). cond n 1 0) (b .1)) in
+      let one : newly (outcomeOf G (workAfter G i) i 0) ≡ 1 = rw (b .1) in
+      let more : i + newly (outcomeOf G (workAfter G i) i 0) ≡ suc i = omega arith in
       subst (Ranked G (filed G (workAfter G i) i 0)) more (ranked-filed G fine lent (workAfter G i) i i 0 (omega (arith, prime-low fine)) (ranked-after i (b .0)))
 
   pub too-many : mostNew (G .numbers) < product (G .radices) → false ≡ isGeneral G
