@@ -11,7 +11,7 @@ use lib.ListN.{replicate}
 use Rattle.lists.specs.Places.{sum, tab, every, joined}
 use Rattle.field.specs.Primes.{isPrime, oddPrime}
 use Rattle.field.specs.Residues.{inverse}
-use Rattle.plan.specs.Numbers.{plan, columns, product, badRadix, radicesFit, outOfRange}
+use Rattle.plan.specs.Numbers.{plan, product, badRadix, radicesFit, outOfRange}
 use Rattle.plan.specs.Parts.{Given, given, lengthsFit, valuesFit, storeSize, callCauses}
 use Rattle.plan.specs.Rows.{digit, link, chain, values, weighted, rowPlace, row}
 use Rattle.store.specs.Elimination.{residual, lead, normal, inserted, outcome, after, rowStart, cells, flat}

@@ -3,15 +3,15 @@
 --     digit-none, none-linked, none-sum      all digits of entry 0 are 0, so are all variables where there are no links, and then Equation 1 is 0
 --     no-links               of the second kind
 -- Assumes nothing.
-use mathlib.Core.Path.{_≡_, refl, sym, ap, ap₂, _∙_}
+use mathlib.Core.Path.{_≡_, sym, ap, ap₂, _∙_}
 use mathlib.Core.Bool.{true≢false}
 use mathlib.Core.List.{List}
-use Prim.Native.Nat.{ℕ, suc, _+_, _*_, _/_, _%_, _≤_, _<_}
+use Prim.Native.Nat.{ℕ, suc, _+_, _*_, _%_, _≤_, _<_}
 use native.Mathlib.Nat.{zero-div, zero-mod, zero-mul, mul-zero}
 use native.Mathlib.Decide.{decLt}
 use native.Mathlib.Omega.{arith}
 use lib.ListN.{length, drop, List·getD-eq-default}
-use Rattle.lists.specs.Places.{sum, tab, at}
+use Rattle.lists.specs.Places.{sum, at}
 use Rattle.lists.proofs.Sums.{sum-none}
 use Rattle.lists.proofs.Tabs.{tab-length, tab-at}
 use Rattle.field.proofs.Modular.{cong-residue}

@@ -15,7 +15,7 @@ use Prim.Native.Nat.{ℕ, zero, suc, _*_, _%_, _≤_, _<_}
 use native.Mathlib.Nat.{le-refl, le-of-lt, le-step, lt-suc-self, not-suc-le-zero, mul-zero}
 use native.Mathlib.Decide.{ℕ-discrete}
 use native.Mathlib.Omega.{arith}
-use Rattle.lists.specs.Places.{sum, at}
+use Rattle.lists.specs.Places.{at}
 use Rattle.lists.proofs.Sums.{sum-none}
 use Rattle.plan.specs.Numbers.{columns, Within}
 use Rattle.plan.specs.Parts.{Given, Lent}

@@ -5,23 +5,23 @@
 --     DStore, dStore          it is reduced, its rows are sums of multiples of the first b d rows, with 0 for a right-hand side
 --     Next, next              d row b is new to it, which makes one pivot more; or it is a sum of multiples of those before, and nothing changes
 -- Assumes nothing.
-use mathlib.Core.Path.{_≡_, refl, sym, ap, subst, _∙_}
+use mathlib.Core.Path.{_≡_, sym, ap, _∙_}
 use mathlib.Core.Bool.{true, cond}
 use mathlib.Core.List.{List}
-use Prim.Native.Nat.{ℕ, zero, suc, _+_, _-_, _*_, _%_, _≤_, _<_}
+use Prim.Native.Nat.{ℕ, zero, suc, _+_, _-_, _*_, _%_, _<_}
 use native.Mathlib.Nat.{le-refl, le-of-lt, mul-zero, mod-eq-of-lt, add-zero}
 use native.Mathlib.Decide.{decLt}
 use native.Mathlib.Omega.{arith}
 use lib.Dec.{ltb}
 use borrow.Author.Tests.{lt-ltb, le-ltb}
-use Rattle.lists.specs.Places.{sum, at}
+use Rattle.lists.specs.Places.{at}
 use Rattle.lists.proofs.Sums.{sum-none, sum-zero}
 use Rattle.field.specs.Primes.{oddPrime}
 use Rattle.field.specs.Residues.{Residues}
 use Rattle.field.proofs.Modular.{cong-residue}
 use Rattle.plan.specs.declared.numbers.Plan.{Plan}
 use Rattle.plan.specs.Numbers.{variables}
-use Rattle.store.specs.Elimination.{Reduced, Outcome, residual, outcome, after}
+use Rattle.store.specs.Elimination.{Reduced, Outcome, residual, after}
 use Rattle.store.specs.Filings.{empty}
 use Rattle.store.specs.Span.{Combined, withRow}
 use Rattle.store.proofs.Answers.{Resolved, resolved-new, resolved-implied, resolved-contradiction, resolves}

@@ -29,7 +29,7 @@ use Rattle.store.proofs.Filing.{above-one, positive}
 use Rattle.laws.specs.Rank.{rowsMost, mostNew}
 use Rattle.laws.proofs.Pivots.{mark, mark-most, mark-zero, pivots, pivots-empty, pivots-most}
 use Rattle.laws.proofs.Relations.{Obeys, relation-ends}
-use Rattle.laws.proofs.DRows.{mirrored, filedRows, DStore, dStore, Next, fresh, stale, next}
+use Rattle.laws.proofs.DRows.{mirrored, filedRows, DStore, dStore, fresh, stale, next}
 use Rattle.laws.proofs.WastedColumns.{Relation, blockPart, relation, part-here, part-above, relation-at, d-relation, stale-relation}
 
 -- a sum from its last term to its first

@@ -6,10 +6,10 @@
 --     relation-ends            a column at which a relation ends with a 1 has no pivot
 -- A pivot's row is zero left of its column, and the relation is zero right of it: their product would be the pivot's 1.
 -- Assumes nothing.
-use mathlib.Core.Path.{_≡_, refl, sym, ap, _∙_}
-use mathlib.Core.Bool.{true, cond}
+use mathlib.Core.Path.{_≡_, sym, ap, _∙_}
+use mathlib.Core.Bool.{cond}
 use mathlib.Core.Logic.{⊎-elim}
-use Prim.Native.Nat.{ℕ, _+_, _*_, _%_, _≤_, _<_}
+use Prim.Native.Nat.{ℕ, _+_, _*_, _%_, _<_}
 use native.Mathlib.Nat.{le-refl, le-of-lt, zero-mul, mul-zero}
 use native.Mathlib.Decide.{decLt}
 use native.Mathlib.Omega.{arith}
@@ -18,7 +18,7 @@ use borrow.Author.Tests.{lt-ltb, le-ltb}
 use Rattle.lists.specs.Places.{sum}
 use Rattle.lists.proofs.Sums.{sum-ext, sum-none, sum-only}
 use Rattle.field.proofs.Modular.{cong-residue}
-use Rattle.store.specs.Elimination.{Satisfies, ZeroRow, Pivot, Reduced, after}
+use Rattle.store.specs.Elimination.{Satisfies, Pivot, Reduced, after}
 use Rattle.store.specs.Span.{Combined, withRow}
 use Rattle.laws.proofs.Spans.{combined-satisfies}
 use Rattle.laws.proofs.FilingSpans.{after-combined}

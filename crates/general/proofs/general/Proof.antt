@@ -1,8 +1,8 @@
 -- `general::general` meets its contract: what `admit` refuses, else what the test says, and the work store is cleared before and after.
 -- Assumes nothing.
 use mathlib.Core.Path.{_≡_, sym, ap, _∙_}
-use mathlib.Core.Bool.{Bool, cond}
-use mathlib.Core.List.{List, [], _∷_}
+use mathlib.Core.Bool.{cond}
+use mathlib.Core.List.{[], _∷_}
 use Prim.Native.Nat.{ℕ}
 use lib.ListN.{length, replicate}
 use borrow.Author.Tests.{eqb-true}
@@ -13,9 +13,8 @@ use Rattle.plan.specs.Parts.{Given, lend, given, storeSize}
 use Rattle.plan.specs.declared.numbers.Plan.{Plan}
 use Rattle.plan.specs.declared.admission.Own.the-variants.{Store}
 use Rattle.plan.proofs.Admitting.{Admitted, admission, turned-away}
-use Rattle.store.specs.Calls.{emptyStore}
 use Rattle.store.proofs.StoreCalls.{refused-call}
-use Rattle.general.specs.Suits.{isGeneral, generalAnswer, generalWork}
+use Rattle.general.specs.Suits.{generalAnswer, generalWork}
 use Rattle.general.proofs.Answers.{cleared-work, suited-call}
 use Rattle.general.proofs.general.Statement.{statement}
 use Rattle.general.proofs.general.Tie as tie
