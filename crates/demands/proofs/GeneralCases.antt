@@ -45,7 +45,7 @@ pub record Suits : Type 0 where
   pub apart : generalAnswer (E 5 2 (1 ∷ 0 ∷ 0 ∷ 1 ∷ [])) (nines 27) ≡ answerOf Yes
   pub alike : generalAnswer (E 5 2 (1 ∷ 0 ∷ 1 ∷ 0 ∷ [])) (nines 27) ≡ answerOf No
   pub alike-four : generalAnswer (E 4 2 (1 ∷ 0 ∷ 1 ∷ 0 ∷ [])) (nines 27) ≡ answerOf Yes
-  -- "causes 1 2 3 4 5", and a refusal leaves the work store
+  -- causes 1 to 5 in their order; a refusal leaves the work store
   pub no-prime : generalAnswer (given 9 1 2 0 33 (2 ∷ 2 ∷ []) [] [] (9 ∷ [])) (nines 3) ≡ answerOf (Refused 1)
   pub no-radix : generalAnswer (given 3 1 2 0 33 (2 ∷ 2 ∷ []) [] [] (9 ∷ [])) (nines 3) ≡ answerOf (Refused 2)
   pub no-range : generalAnswer (given 3 2 2 0 33 (2 ∷ 2 ∷ []) [] [] (9 ∷ [])) (nines 3) ≡ answerOf (Refused 3)
