@@ -74,7 +74,7 @@
  * and in all there are C (C + 1) / 2 + C bytes, CELERY_STORE_LEN. An empty
  * store is all zeros. A store is in reduced form when all bytes are below p,
  * and row q is either all zero, or has a 1 in column q and column q is zero in
- * every other row. All that celery_file leaves is in reduced form.
+ * every other row. All that filing and withdrawing leave is in reduced form.
  *
  * Stores on disk. Before this layout a store was C rows of C + 1 bytes each,
  * with the zeros left of column q: C (C + 1) bytes, CELERY_FULL_STORE_LEN. That
@@ -87,6 +87,32 @@
  * it belongs to; keep the plan with it.
  *
  *
+ * RECORDS
+ *
+ * A store cannot tell which entries it was made of. Who wants to correct a single
+ * output lends a list of records beside the store: an entry and its value each, as
+ * many records as the plan has entries, and a count. The records before the count
+ * are the list, in the order in which the entries were kept; what is behind the
+ * count is not looked at. celery_file_recorded files an entry and puts it at the
+ * end of the list, where it is not there yet. celery_withdraw takes an entry out,
+ * and leaves the store that filing the remaining list on an empty one gives. So an
+ * entry that was implied when it was filed can carry the store later: where the
+ * entry that was new is withdrawn, the implied one takes its place.
+ *
+ * It begins with an empty store and a count of 0. From there on the store, the
+ * records and the count are handed from call to call as they were left. Then the
+ * entries kept are those listed: those filed and not withdrawn since. Where no
+ * other cause is met, a filing is refused with 9 exactly when no beta reproduces it
+ * together with the entries kept before it; and the coefficients of the store
+ * reproduce all entries kept after the last call. A filing that was accepted has
+ * been kept, though its entry be withdrawn later.
+ *
+ * The list is tested on each call, against the store (16): no entry is named
+ * twice, each is accepted when they are filed in order on an empty store, and that
+ * leaves the lent store. Any such list is taken, however it came to be: a large
+ * table may be filed with celery_file first, and the records written by the host.
+ *
+ *
  * WHAT IS LENT
  *
  * A part is a pointer and a length, counted in its own elements. So many
@@ -95,9 +121,10 @@
  * pointer too: an empty part is NULL and 0 in C, data() and size() of an empty
  * std::vector in C++. Nothing is read or written through it.
  *
- * A single number that a call writes (column, residue, general, written, y,
- * bootstraps, norm, line) is lent by a pointer that is never null, also where the
- * call is refused. The number there must be aligned for its type and initialised.
+ * A single number that a call writes (column, residue, general, count, value,
+ * written, y, bootstraps, norm, line) is lent by a pointer that is never null, also
+ * where the call is refused. The number there must be aligned for its type and
+ * initialised. Of these count alone is read too.
  *
  * What a call writes must overlap nothing else that it is lent, and nothing
  * else may write to what it is lent until it returns. Parts that are only read
@@ -108,12 +135,14 @@
  * REFUSALS
  *
  * Each call answers 0 where it accepts, else the number of the first cause
- * that it meets, in the order of the numbers; lengths of all parts (4) come
- * before values (5). The radices are judged as lent: a bad one (2) and a
- * product above 4,096 (3) come first also where there are not n of them (4). A
- * refused call leaves all that it was lent as it was, the single numbers too,
- * with one exception: a refusal by 13, or by 15 for a text, tells its line in
- * line, the one number that a refusal writes; all else stays as it was.
+ * that it meets, in the order of the numbers, but that 16 is asked between 6 and
+ * 7; lengths of all parts (4) come before values (5). The radices are judged as
+ * lent: a bad one (2) and a product above 4,096 (3) come first also where there
+ * are not n of them (4). A refused call leaves all that it was lent as it was, the
+ * single numbers too, with two exceptions. A refusal by 13, or by 15 for a text,
+ * tells its line in line, the one number that a refusal writes. And the work store
+ * that is lent beside records is all zeros after every call that none of the
+ * causes 1 to 5 refuses, be it accepted or not. All else stays as it was.
  *
  *
  * COST
@@ -141,7 +170,7 @@ enum celery_refusal {
     CELERY_NO_PRIME = 1,      /* p is no odd prime from 3 to 251 */
     CELERY_RADIX = 2,         /* s or a radix is below 2 or above p */
     CELERY_RANGE = 3,         /* n, L, t, C or the product of the radices is out of range */
-    CELERY_LENGTH = 4,        /* a part has another length than the plan says */
+    CELERY_LENGTH = 4,        /* a part has another length than the plan says, or a count is above its list */
     CELERY_NO_RESIDUE = 5,    /* a weight, table value or given beta is not below p */
     CELERY_DAMAGED = 6,       /* the store is not in reduced form */
     CELERY_NO_ENTRY = 7,      /* the entry is not below the product of the radices */
@@ -152,7 +181,9 @@ enum celery_refusal {
     CELERY_NO_DIGIT = 12,     /* a digit is not below its own radix */
     CELERY_MALFORMED = 13,    /* a line of the text is malformed or missing */
     /* 14 is the filing program's alone: no call answers it. */
-    CELERY_NOT_WRITTEN = 15   /* no coefficients make the writer give exactly this */
+    CELERY_NOT_WRITTEN = 15,  /* no coefficients make the writer give exactly this */
+    CELERY_RECORDS = 16,      /* the records are not those of the store */
+    CELERY_NOT_LISTED = 17    /* the withdrawn entry is not listed */
 };
 
 /*
@@ -185,6 +216,12 @@ enum celery_refusal {
     ((m) * ((n) + 2) + (m) * ((m) - 1) / 2 + 1 +                         \
      (t) * (2 * CELERY_VARIABLES(n, m) + 12) + CELERY_VARIABLES(n, m))
 #define CELERY_STEPS_LEN(n, m, t) (4 * CELERY_STEP_COUNT(n, m, t))
+
+/* An entry and its value, see RECORDS. */
+struct celery_record {
+    uint16_t entry;
+    uint16_t value;
+};
 
 /* The parameters by which every call is lent its plan. */
 #define CELERY_PLAN                                          \
@@ -245,6 +282,60 @@ uint8_t celery_test(CELERY_PLAN, const uint8_t *store, size_t store_len);
  */
 uint8_t celery_file(CELERY_PLAN, uint8_t *store, size_t store_len,
                     size_t entry, size_t value, size_t *column);
+
+/*
+ * Files an entry with its value as celery_file does, beside records, see RECORDS.
+ * Accepted, an entry that is not listed joins the end of the list with its value,
+ * also where the store implied it. Filing a listed entry again with its value finds
+ * it implied and leaves the list; every other value is refused with 9.
+ *
+ * The list is refused with 16 where it names an entry twice, or where an entry of
+ * it is refused when they are filed in order on the work store, which is cleared
+ * before, or where that does not leave the lent store. So is an entry there that is
+ * none, and a value that is not below s.
+ *
+ * Lent:    store and work, C (C + 1) / 2 + C bytes each, the old values of work
+ *          do not matter; records, as many as the plan has entries, of which
+ *          those before *count are the list; count, any number, a count above
+ *          the number of records is refused with 4; entry and value, any
+ *          numbers; column.
+ * Causes:  1 2 3 4 5, 6, 16, 7, 8, 9, in this order.
+ * Writes:  *column, and the store, as celery_file does. Where the entry was not
+ *          listed, the record behind the list, and *count, which is then one more.
+ *          All of work: it is all zeros after every call that none of the causes
+ *          1 to 5 refuses, also where another does.
+ * Cost:    celery_test and celery_file's own work, and the whole list is filed once
+ *          on work, for each entry what celery_file costs without celery_test: up
+ *          to a few milliseconds for some hundred entries, and up to a few tenths
+ *          of a second for 4,096 with C = 1,024. A host that fills a large table
+ *          may file it with celery_file, and write the records itself.
+ */
+uint8_t celery_file_recorded(CELERY_PLAN, uint8_t *store, size_t store_len,
+                             uint8_t *work, size_t work_len,
+                             struct celery_record *records, size_t records_len,
+                             size_t *count, size_t entry, size_t value,
+                             size_t *column);
+
+/*
+ * Withdraws a listed entry, see RECORDS: its record is removed, those behind it
+ * close the gap, the record that is freed at the end of the list becomes zeros, and
+ * the store becomes the one that filing the remaining list on an empty one gives.
+ *
+ * Lent:    store, work, records and count as for celery_file_recorded; entry, any
+ *          number; value.
+ * Causes:  1 2 3 4 5, 6, 16, 7, 17, in this order.
+ * Writes:  *value: the value withdrawn. The store. The records from that of the
+ *          entry to the end of the list, and *count, which is then one less. All
+ *          of work: it is all zeros after every call that none of the causes 1 to
+ *          5 refuses, also where another does.
+ * Cost:    celery_test, and the list is filed twice on work, once to test it, and
+ *          once without the entry to make the store: about twice what
+ *          celery_file_recorded costs.
+ */
+uint8_t celery_withdraw(CELERY_PLAN, uint8_t *store, size_t store_len,
+                        uint8_t *work, size_t work_len,
+                        struct celery_record *records, size_t records_len,
+                        size_t *count, size_t entry, uint16_t *value);
 
 /*
  * Reads the coefficients off a store: coefficient q is the right-hand side of

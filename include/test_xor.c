@@ -5,8 +5,9 @@
  * compares. The same for the days of a month under two radices, 12 and 2. Then
  * entries are settled to residues of s and more, every part that can be empty is
  * lent as a null pointer, the coefficients are read back from the program and
- * from its listing, stores are moved from the full layout and back, and plans are
- * asked whether they are general. It is C and C++. Prints "ok", or the line at
+ * from its listing, stores are moved from the full layout and back, plans are
+ * asked whether they are general, and one output of the table is corrected: its
+ * entry is withdrawn and filed anew. It is C and C++. Prints "ok", or the line at
  * fault.
  */
 #include "celerycrag.h"
@@ -71,6 +72,15 @@ static const char printed[] =
     "2 4 4 0\n2 5 5 1\n1 6 4 1\n1 6 5 1\n1 6 0 1\n1 6 1 0\n";
 /* Without the 0 that ends it in C. */
 enum { PRINTED = sizeof printed - 1 };
+
+/* Whether so many bytes are all this one. */
+static int all_are(const uint8_t *bytes, size_t count, uint8_t byte)
+{
+    size_t i;
+    for (i = 0; i < count && bytes[i] == byte; i++) {
+    }
+    return i == count;
+}
 
 /* A refused call leaves the single number as it was. */
 static int file(uint8_t *store, size_t entry, size_t value, int answer, size_t column)
@@ -157,13 +167,14 @@ static int days_of_a_month(void)
     static const uint8_t late_month[DAYS_N] = {12, 1}, late_bit[DAYS_N] = {1, 2};
     uint8_t store[DAYS_STORE] = {0}, kept[DAYS_STORE] = {0};
     uint8_t row[DAYS_C] = {0}, beta[DAYS_C] = {0}, y = 99;
-    uint16_t steps[DAYS_STEPS] = {0};
-    size_t written = 0, column = 999, bootstraps = 999, norm = 999, new_rows = 0, entry, i;
+    uint16_t steps[DAYS_STEPS] = {0}, value = 999;
+    struct celery_record records[ENTRIES] = {{0, 0}};
+    size_t written = 0, column = 999, bootstraps = 999, norm = 999, count = 0, new_rows = 0, entry, i;
 
     CHECK(celery_check(DAYS) == CELERY_ACCEPTED);
     for (entry = 0; entry < ENTRIES; entry++) {
-        size_t value = beyond_28(entry / 2, entry % 2);
-        CHECK(celery_file(DAYS, store, sizeof store, entry, value, &column) == CELERY_ACCEPTED);
+        size_t days = beyond_28(entry / 2, entry % 2);
+        CHECK(celery_file(DAYS, store, sizeof store, entry, days, &column) == CELERY_ACCEPTED);
         new_rows += column < DAYS_C;
     }
     CHECK(new_rows == DAYS_C);
@@ -210,9 +221,13 @@ static int days_of_a_month(void)
         CHECK(celery_settle(DAYS_IN(wrong[i].radices, wrong[i].count), store, sizeof store, 3, &y, &column) ==
               wrong[i].answer);
         CHECK(celery_general(DAYS_IN(wrong[i].radices, wrong[i].count), store, sizeof store, &y) == wrong[i].answer);
+        CHECK(celery_file_recorded(DAYS_IN(wrong[i].radices, wrong[i].count), store, sizeof store, kept, sizeof kept,
+                                   records, ENTRIES, &count, 3, 1, &column) == wrong[i].answer);
+        CHECK(celery_withdraw(DAYS_IN(wrong[i].radices, wrong[i].count), store, sizeof store, kept, sizeof kept,
+                              records, ENTRIES, &count, 3, &value) == wrong[i].answer);
     }
     CHECK(memcmp(kept, store, sizeof store) == 0);
-    CHECK(column == 999 && y == 99);
+    CHECK(column == 999 && y == 99 && count == 0 && value == 999);
     return 0;
 }
 
@@ -407,7 +422,9 @@ static int moved(void)
     uint8_t store[STORE] = {0}, other[STORE] = {0}, full[FULL] = {0}, beta[C] = {0}, residue = 255;
     /* One digit: the two layouts are the same two bytes. */
     uint8_t one[CELERY_STORE_LEN(1, 0, 0)] = {1, 3}, same[CELERY_FULL_STORE_LEN(1, 0, 0)] = {9, 9};
-    size_t column = 999, i, q, j;
+    struct celery_record records[4] = {{0, 0}};
+    uint16_t value = 999;
+    size_t column = 999, count = 0, i, q, j;
 
     CHECK(STORE == 14 && FULL == 20 && row_begins(C) == STORE);
     CHECK(CELERY_STORE_LEN(12, 0, 29) == 65340); /* of 360 columns */
@@ -469,7 +486,11 @@ static int moved(void)
     CHECK(celery_coefficients(XOR, full, FULL, beta, C) == CELERY_LENGTH);
     CHECK(celery_settle(XOR, full, FULL, 0, &residue, &column) == CELERY_LENGTH);
     CHECK(celery_general(XOR, full, FULL, &residue) == CELERY_LENGTH);
-    CHECK(column == 999 && residue == 255 && memcmp(full, on_disk, FULL) == 0);
+    CHECK(celery_file_recorded(XOR, full, FULL, other, STORE, records, 4, &count, 0, 0, &column) == CELERY_LENGTH);
+    CHECK(celery_file_recorded(XOR, store, STORE, full, FULL, records, 4, &count, 0, 0, &column) == CELERY_LENGTH);
+    CHECK(celery_withdraw(XOR, full, FULL, other, STORE, records, 4, &count, 0, &value) == CELERY_LENGTH);
+    CHECK(celery_withdraw(XOR, store, STORE, full, FULL, records, 4, &count, 0, &value) == CELERY_LENGTH);
+    CHECK(column == 999 && residue == 255 && count == 0 && value == 999 && memcmp(full, on_disk, FULL) == 0);
 
     CHECK(sizeof one == sizeof same);
     CHECK(celery_to_full(DIGIT, one, sizeof one, same, sizeof same) == CELERY_ACCEPTED);
@@ -496,15 +517,6 @@ static const uint8_t by_digit[CELERY_D_LEN(LINK_N, LINK_M, 1)] = {1, 0};
     LINK_P, LINK_S, LINK_N, LINK_M, 1, radix, 1, one_weight,            \
     sizeof one_weight, at_zero, sizeof at_zero, by_digit, sizeof by_digit
 enum { LINKED_STORE = CELERY_STORE_LEN(LINK_N, LINK_M, 0), PRODUCT_STORE = CELERY_STORE_LEN(LINK_N, LINK_M, 1) };
-
-/* Whether so many bytes are all this one. */
-static int all_are(const uint8_t *bytes, size_t count, uint8_t byte)
-{
-    size_t i;
-    for (i = 0; i < count && bytes[i] == byte; i++) {
-    }
-    return i == count;
-}
 
 /*
  * Asks plans whether they are general. An accepted call answers 1 or 0 and leaves
@@ -571,6 +583,197 @@ static int general_plans(void)
     return 0;
 }
 
+/* What the two calls with records write, under XOR's plan of four entries. */
+enum { LISTED = 4 };
+struct ledger {
+    uint8_t store[STORE], work[STORE];
+    struct celery_record records[LISTED];
+    size_t count;
+};
+
+/* An empty store and a count of 0; what the rest holds does not matter. */
+static void begin(struct ledger *kept)
+{
+    memset(kept, 0xA5, sizeof *kept);
+    memset(kept->store, 0, STORE);
+    kept->count = 0;
+}
+
+/* A refusal leaves store, records and count, and every answer but 1 to 5 a work store of zeros. */
+static int left(const struct ledger *kept, const struct ledger *before, int answer)
+{
+    if (!all_are(kept->work, STORE, answer >= CELERY_NO_PRIME && answer <= CELERY_NO_RESIDUE ? 0xA5 : 0))
+        return 0;
+    return answer == CELERY_ACCEPTED ||
+           (memcmp(kept->store, before->store, STORE) == 0 && kept->count == before->count &&
+            memcmp(kept->records, before->records, sizeof kept->records) == 0);
+}
+
+/* Files with so many records lent. */
+static int file_in(struct ledger *kept, size_t lent, size_t entry, size_t value, int answer, size_t column)
+{
+    struct ledger before = *kept;
+    size_t found = 999;
+    int given;
+    memset(kept->work, 0xA5, STORE);
+    given = celery_file_recorded(XOR, kept->store, STORE, kept->work, STORE, kept->records, lent, &kept->count, entry,
+                                 value, &found);
+    return given == answer && found == (answer == CELERY_ACCEPTED ? column : 999) && left(kept, &before, answer);
+}
+
+/* The same of a withdrawal. */
+static int withdraw_in(struct ledger *kept, size_t lent, size_t entry, int answer, uint16_t value)
+{
+    struct ledger before = *kept;
+    uint16_t told = 999;
+    int given;
+    memset(kept->work, 0xA5, STORE);
+    given = celery_withdraw(XOR, kept->store, STORE, kept->work, STORE, kept->records, lent, &kept->count, entry, &told);
+    return given == answer && told == (answer == CELERY_ACCEPTED ? value : 999) && left(kept, &before, answer);
+}
+
+/* Whether both calls refuse, whatever the entry. */
+static int refused(const struct ledger *kept, size_t lent, int answer)
+{
+    size_t entry;
+    for (entry = 0; entry <= LISTED; entry++) {
+        struct ledger filing = *kept, withdrawal = *kept;
+        if (!file_in(&filing, lent, entry, 0, answer, 0) || !withdraw_in(&withdrawal, lent, entry, answer, 0))
+            return 0;
+    }
+    return 1;
+}
+
+/* Whether the list is so many of these records. */
+static int lists(const struct ledger *kept, size_t count, const struct celery_record *records)
+{
+    return kept->count == count && memcmp(kept->records, records, count * sizeof *records) == 0;
+}
+
+/*
+ * Corrects one output of a table: the entry is withdrawn and filed with another
+ * value. Then what is refused. Answers 0, or prints the line at fault.
+ */
+static int corrected(void)
+{
+    static const struct celery_record filed[LISTED] = {{1, 1}, {2, 1}, {3, 0}, {0, 0}},
+                                      fewer[LISTED] = {{2, 1}, {3, 0}, {0, 0}, {0, 0}},
+                                      anew[LISTED] = {{2, 1}, {3, 0}, {0, 0}, {1, 0}};
+    /* A record in place of the last, which is that of entry 0 with 0. */
+    static const struct celery_record wrong[] = {
+        {2, 1}, /* an entry twice, with its value and with another */
+        {2, 0},
+        {4, 0}, /* no entry */
+        {256, 0},
+        {65535, 0},
+        {0, 2}, /* no value */
+        {0, 3},
+        {0, 256},
+        {0, 65535},
+        {0, 1}, /* a contradiction: entry 0 is always 0 */
+        {1, 1}, /* another store */
+    };
+    static const size_t columns[LISTED] = {1, 0, 2, C};
+    static const uint8_t outputs[LISTED] = {0, 0, 1, 0}, large[CELERY_D_LEN(N, M, T)] = {1, 3};
+    struct ledger kept, spoiled;
+    uint8_t beta[C] = {0}, y = 99;
+    uint16_t steps[STEPS] = {0}, value = 999;
+    size_t written = 0, bootstraps = 0, column = 999, entry, i;
+
+    CHECK(sizeof(struct celery_record) == 4);
+    begin(&kept);
+    for (entry = 0; entry < LISTED; entry++)
+        CHECK(withdraw_in(&kept, LISTED, entry, CELERY_NOT_LISTED, 0));
+    CHECK(file_in(&kept, LISTED, 1, 1, CELERY_ACCEPTED, 1));
+    CHECK(file_in(&kept, LISTED, 2, 1, CELERY_ACCEPTED, 0));
+    /* Again: nothing changes. Entry 3 is free, and entry 0 implied, but neither is listed. */
+    CHECK(file_in(&kept, LISTED, 1, 1, CELERY_ACCEPTED, C));
+    CHECK(file_in(&kept, LISTED, 1, 0, CELERY_CONTRADICTION, 0));
+    CHECK(withdraw_in(&kept, LISTED, 3, CELERY_NOT_LISTED, 0));
+    CHECK(withdraw_in(&kept, LISTED, 0, CELERY_NOT_LISTED, 0));
+    CHECK(lists(&kept, 2, filed));
+    /* The freed record is zeros, and those behind it are as they were. */
+    CHECK(withdraw_in(&kept, LISTED, 2, CELERY_ACCEPTED, 1));
+    CHECK(lists(&kept, 1, filed) && kept.records[1].entry == 0 && kept.records[1].value == 0);
+    CHECK(all_are((const uint8_t *)(kept.records + 2), 2 * sizeof *kept.records, 0xA5));
+    CHECK(file_in(&kept, LISTED, 2, 1, CELERY_ACCEPTED, 0));
+    CHECK(file_in(&kept, LISTED, 3, 0, CELERY_ACCEPTED, 2));
+    CHECK(file_in(&kept, LISTED, 0, 0, CELERY_ACCEPTED, C));
+    CHECK(lists(&kept, 4, filed));
+    CHECK(file_in(&kept, LISTED, 2, 1, CELERY_ACCEPTED, C));
+    CHECK(file_in(&kept, LISTED, 1, 0, CELERY_CONTRADICTION, 0));
+    CHECK(lists(&kept, 4, filed));
+    CHECK(file_in(&kept, LISTED, 1, 2, CELERY_NO_VALUE, 0));
+    CHECK(file_in(&kept, LISTED, 4, 2, CELERY_NO_ENTRY, 0));
+    CHECK(withdraw_in(&kept, LISTED, 4, CELERY_NO_ENTRY, 0));
+
+    /* Entry 1 is to be 0. */
+    CHECK(withdraw_in(&kept, LISTED, 1, CELERY_ACCEPTED, 1));
+    CHECK(lists(&kept, 3, fewer));
+    CHECK(memcmp(kept.records, fewer, sizeof fewer) == 0);
+    CHECK(withdraw_in(&kept, LISTED, 1, CELERY_NOT_LISTED, 0));
+    spoiled = kept;
+    CHECK(file_in(&kept, LISTED, 1, 0, CELERY_ACCEPTED, 2));
+    CHECK(lists(&kept, 4, anew));
+    CHECK(celery_coefficients(XOR, kept.store, STORE, beta, C) == CELERY_ACCEPTED);
+    CHECK(celery_write(XOR, beta, C, steps, STEPS, &written) == CELERY_ACCEPTED);
+    for (entry = 0; entry < LISTED; entry++) {
+        uint8_t digits[N] = {(uint8_t)(entry / 2), (uint8_t)(entry % 2)};
+        CHECK(celery_run(XOR, steps, written, digits, N, &y, &bootstraps) == CELERY_ACCEPTED);
+        CHECK(y == outputs[entry]);
+    }
+
+    /* Records in another length, a count above them, and a work store in another length. */
+    for (i = 0; i < LISTED; i++)
+        CHECK(refused(&kept, i, CELERY_LENGTH));
+    for (i = LISTED + 1; i != 0; i *= 2) {
+        spoiled.count = i;
+        CHECK(refused(&spoiled, LISTED, CELERY_LENGTH));
+    }
+    for (i = 0; i < STORE; i++) {
+        CHECK(celery_file_recorded(XOR, kept.store, STORE, i ? kept.work : NULL, i, kept.records, LISTED, &kept.count, 0,
+                                   0, &column) == CELERY_LENGTH);
+        CHECK(celery_withdraw(XOR, kept.store, STORE, i ? kept.work : NULL, i, kept.records, LISTED, &kept.count, 0,
+                              &value) == CELERY_LENGTH);
+    }
+    CHECK(column == 999 && value == 999 && lists(&kept, 4, anew));
+    /* A count above them comes before a byte of the plan, and neither writes. */
+    memset(kept.work, 0xA5, STORE);
+    for (i = 0; i <= LISTED + 1; i++)
+        CHECK(celery_withdraw(P, S, N, M, T, BITS, NONE, NONE, large, sizeof large, kept.store, STORE, kept.work, STORE,
+                              kept.records, LISTED, &i, 1, &value) == (i > LISTED ? CELERY_LENGTH : CELERY_NO_RESIDUE));
+    CHECK(i == LISTED + 2 && value == 999 && all_are(kept.work, STORE, 0xA5));
+
+    /* Damaged records, which come before the entry and behind a damaged store. */
+    for (i = 0; i < sizeof wrong / sizeof *wrong; i++) {
+        spoiled.count = 3;
+        spoiled.records[2] = wrong[i];
+        CHECK(refused(&spoiled, LISTED, CELERY_RECORDS));
+        spoiled.store[0] = 2;
+        CHECK(refused(&spoiled, LISTED, CELERY_DAMAGED));
+        spoiled.store[0] = 1;
+    }
+    /* Without entry 0 the list has the same store; without entry 3 it has not. */
+    spoiled.count = 2;
+    CHECK(withdraw_in(&spoiled, LISTED, 0, CELERY_NOT_LISTED, 0));
+    spoiled.count = 1;
+    CHECK(refused(&spoiled, LISTED, CELERY_RECORDS));
+    spoiled.count = 0;
+    CHECK(refused(&spoiled, LISTED, CELERY_RECORDS));
+
+    /* A table that was filed without records, which the host writes. */
+    begin(&spoiled);
+    for (i = 0; i < LISTED; i++) {
+        CHECK(file(spoiled.store, filed[i].entry, filed[i].value, CELERY_ACCEPTED, columns[i]));
+        spoiled.records[spoiled.count++] = filed[i];
+    }
+    for (entry = LISTED; entry > 0; entry--)
+        CHECK(withdraw_in(&spoiled, LISTED, entry - 1, CELERY_ACCEPTED, (uint16_t)((entry - 1) / 2 ^ (entry - 1) % 2)));
+    CHECK(spoiled.count == 0 && all_are(spoiled.store, STORE, 0));
+    CHECK(all_are((const uint8_t *)spoiled.records, sizeof spoiled.records, 0));
+    return 0;
+}
+
 /*
  * Empty parts as null pointers: those of a plan without links and products, an
  * empty list of steps, and any part of a call that is refused for its length.
@@ -582,8 +785,9 @@ static int empty_parts(void)
     enum { L = CELERY_COLUMNS(N, 0, 0), LAST = CELERY_STEPS_LEN(N, 0, 0) };
     uint8_t store[CELERY_STORE_LEN(N, 0, 0)] = {0}, row[L] = {0}, beta[L] = {0};
     uint8_t digits[N] = {1, 1}, y = 99, residue = 99;
-    uint16_t steps[LAST] = {0};
-    size_t column = 999, written = 999, bootstraps = 999, norm = 999;
+    uint16_t steps[LAST] = {0}, value = 999;
+    struct celery_record records[4] = {{0, 0}};
+    size_t column = 999, written = 999, bootstraps = 999, norm = 999, count = 0;
 
     CHECK(celery_check(BARE) == CELERY_ACCEPTED);
     CHECK(celery_check(P, S, N, 0, 0, BITS, NULL, 0, NULL, 0, NULL, 0) == CELERY_ACCEPTED);
@@ -599,6 +803,9 @@ static int empty_parts(void)
     CHECK(celery_coefficients(BARE, store, sizeof store, NULL, 0) == CELERY_LENGTH);
     CHECK(celery_settle(BARE, NULL, 0, 3, &residue, &column) == CELERY_LENGTH);
     CHECK(celery_general(BARE, NULL, 0, &residue) == CELERY_LENGTH);
+    CHECK(celery_file_recorded(BARE, NULL, 0, NULL, 0, NULL, 0, &count, 3, 1, &column) == CELERY_LENGTH);
+    CHECK(celery_withdraw(BARE, NULL, 0, NULL, 0, NULL, 0, &count, 3, &value) == CELERY_LENGTH);
+    CHECK(celery_withdraw(BARE, store, sizeof store, NULL, 0, records, 4, &count, 3, &value) == CELERY_LENGTH);
     CHECK(celery_check_writing(BARE, NULL, 0, steps, LAST) == CELERY_LENGTH);
     CHECK(celery_check_writing(BARE, beta, L, NULL, 0) == CELERY_NO_ROOM);
     CHECK(celery_write(BARE, NULL, 0, steps, LAST, &written) == CELERY_LENGTH);
@@ -606,6 +813,7 @@ static int empty_parts(void)
     CHECK(celery_run(BARE, NULL, 0, NULL, 0, &y, &bootstraps) == CELERY_LENGTH);
     CHECK(celery_worst_norm(BARE, NULL, 0, &norm) == CELERY_LENGTH);
     CHECK(column == 999 && written == 999 && y == 99 && bootstraps == 999 && norm == 999 && residue == 99);
+    CHECK(count == 0 && value == 999);
 
     /* Entry 3 has the digits 1 1, and its value 1 makes beta 1 0. */
     CHECK(celery_row(BARE, 3, row, L) == CELERY_ACCEPTED);
@@ -698,7 +906,7 @@ int main(void)
     CHECK(settle(store, 4, CELERY_DAMAGED, 0, 0)); /* 6 before 7 */
 
     if (days_of_a_month() != 0 || settled_beyond_s() != 0 || empty_parts() != 0 || read_back() != 0 || moved() != 0 ||
-        general_plans() != 0)
+        general_plans() != 0 || corrected() != 0)
         return 1;
 
     puts("ok");

@@ -13,6 +13,7 @@ ghost use Rattle.plan.specs.Rows as rows;
 ghost use Rattle.store.specs.Calls as stores;
 ghost use Rattle.store.specs.Moves as moves;
 ghost use Rattle.store.specs.Settled as settled;
+ghost use Rattle.ledger.specs.Calls as ledgers;
 ghost use Rattle.general.specs.Suits as suits;
 ghost use Rattle.program.specs.Layout.{stepCount};
 ghost use Rattle.program.specs.Calls as programs;
@@ -20,6 +21,7 @@ ghost use Rattle.listing.specs.Norm as norms;
 ghost use Rattle.readback.specs.Recovery as recovery;
 ghost use Rattle.readback.specs.Listings as listings;
 ghost use Rattle.celerycrag.specs.Numbers as specs;
+use records::Record;
 
 // Checks a plan: causes 1 2 3 4 5.
 #[no_mangle]
@@ -99,7 +101,7 @@ pub extern "C" fn celery_file(
 ) -> u8
     ensures { λ r. ⌜ r ≡ numberOf (stores.fileAnswer (given p s n m t (now (radices .entry)) (now (weights .entry)) (now (tables .entry)) (now (d .entry))) (now (store .entry)) entry value) ⌝ }
     ensures { λ r. ⌜ now (store .exit) ≡ stores.fileStore (given p s n m t (now (radices .entry)) (now (weights .entry)) (now (tables .entry)) (now (d .entry))) (now (store .entry)) entry value ⌝ }
-    ensures { λ r. ⌜ now (column .exit) ≡ specs.columnOf (stores.fileAnswer (given p s n m t (now (radices .entry)) (now (weights .entry)) (now (tables .entry)) (now (d .entry))) (now (store .entry)) entry value) (columns (plan p s n m t)) (now (column .entry)) ⌝ }
+    ensures { λ r. ⌜ now (column .exit) ≡ stores.columnOf (stores.fileAnswer (given p s n m t (now (radices .entry)) (now (weights .entry)) (now (tables .entry)) (now (d .entry))) (now (store .entry)) entry value) (columns (plan p s n m t)) (now (column .entry)) ⌝ }
 {
     let a = store::file(
         p,
@@ -126,6 +128,65 @@ pub extern "C" fn celery_file(
         }
         store::Filed::Refused(k) => k,
     }
+}
+
+// Files an entry with its value, beside the records: causes 1 2 3 4 5 6 16 7 8 9. An entry that is not listed joins the records. `column` as of
+// `celery_file`; the work store is all zeros after a call that passes cause 5.
+#[no_mangle]
+pub extern "C" fn celery_file_recorded(
+    p: usize,
+    s: usize,
+    n: usize,
+    m: usize,
+    t: usize,
+    radices: &[u8],
+    weights: &[u8],
+    tables: &[u8],
+    d: &[u8],
+    store: &mut [u8],
+    work: &mut [u8],
+    records: &mut [Record],
+    count: &mut usize,
+    entry: usize,
+    value: usize,
+    column: &mut usize,
+) -> u8
+    ensures { λ r. ⌜ (r ≡ numberOf (ledgers.recordAnswer (given p s n m t (now (radices .entry)) (now (weights .entry)) (now (tables .entry)) (now (d .entry))) (ledgers.filled (now (store .entry)) (now (records .entry)) (now (count .entry))) (now (work .entry)) entry value)) × (ledgers.filled (now (store .exit)) (now (records .exit)) (now (count .exit)) ≡ ledgers.recordAfter (given p s n m t (now (radices .entry)) (now (weights .entry)) (now (tables .entry)) (now (d .entry))) (ledgers.filled (now (store .entry)) (now (records .entry)) (now (count .entry))) (now (work .entry)) entry value) × (now (work .exit) ≡ ledgers.workAfter (given p s n m t (now (radices .entry)) (now (weights .entry)) (now (tables .entry)) (now (d .entry))) (ledgers.ownOf (ledgers.filled (now (store .entry)) (now (records .entry)) (now (count .entry))) (now (work .entry))) (now (work .entry))) × (now (column .exit) ≡ stores.columnOf (ledgers.recordAnswer (given p s n m t (now (radices .entry)) (now (weights .entry)) (now (tables .entry)) (now (d .entry))) (ledgers.filled (now (store .entry)) (now (records .entry)) (now (count .entry))) (now (work .entry)) entry value) (columns (plan p s n m t)) (now (column .entry))) ⌝ }
+{
+    let mut list = ledger::list_buffer();
+    let size = records::unpack(&mut list, &*records);
+    let placed = ledger::file_listed(p, s, n, m, t, radices, weights, tables, d, store, work, &list, size, count, entry, value, column);
+    records::put(records, placed.at, placed.entry, placed.value);
+    placed.number
+}
+
+// Withdraws an entry: causes 1 2 3 4 5 6 16 7 17. Its record goes, and the store is that of the records left. `value` becomes the value
+// withdrawn; the work store is all zeros after a call that passes cause 5.
+#[no_mangle]
+pub extern "C" fn celery_withdraw(
+    p: usize,
+    s: usize,
+    n: usize,
+    m: usize,
+    t: usize,
+    radices: &[u8],
+    weights: &[u8],
+    tables: &[u8],
+    d: &[u8],
+    store: &mut [u8],
+    work: &mut [u8],
+    records: &mut [Record],
+    count: &mut usize,
+    entry: usize,
+    value: &mut u16,
+) -> u8
+    ensures { λ r. ⌜ (r ≡ numberOf (ledgers.withdrawAnswer (given p s n m t (now (radices .entry)) (now (weights .entry)) (now (tables .entry)) (now (d .entry))) (ledgers.filled (now (store .entry)) (now (records .entry)) (now (count .entry))) (now (work .entry)) entry)) × (ledgers.filled (now (store .exit)) (now (records .exit)) (now (count .exit)) ≡ ledgers.withdrawAfter (given p s n m t (now (radices .entry)) (now (weights .entry)) (now (tables .entry)) (now (d .entry))) (ledgers.filled (now (store .entry)) (now (records .entry)) (now (count .entry))) (now (work .entry)) entry) × (now (work .exit) ≡ ledgers.workAfter (given p s n m t (now (radices .entry)) (now (weights .entry)) (now (tables .entry)) (now (d .entry))) (ledgers.ownOf (ledgers.filled (now (store .entry)) (now (records .entry)) (now (count .entry))) (now (work .entry))) (now (work .entry))) × (now (value .exit) ≡ specs.valueOf (ledgers.withdrawAnswer (given p s n m t (now (radices .entry)) (now (weights .entry)) (now (tables .entry)) (now (d .entry))) (ledgers.filled (now (store .entry)) (now (records .entry)) (now (count .entry))) (now (work .entry)) entry) 0 (now (value .entry))) ⌝ }
+{
+    let mut list = ledger::list_buffer();
+    let size = records::unpack(&mut list, &*records);
+    let taken = ledger::withdraw_listed(p, s, n, m, t, radices, weights, tables, d, store, work, &list, size, count, entry, value);
+    records::remove_at(records, taken.count, taken.at);
+    taken.number
 }
 
 // How an entry stands on a store: causes 1 2 3 4 5 6 7. Forced, `residue` becomes the residue and `column` C, which is no column. Free,

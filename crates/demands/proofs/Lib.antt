@@ -1,5 +1,6 @@
 -- The proof of demand 3: the state that a list of calls keeps, one turn, whole lists, and the program. Then what settling answers after a list,
--- which plans suit every table, which shapes have none, how many calls of a list are answered New, and the tables of cases.
+-- which plans suit every table, which shapes have none, how many calls of a list are answered New, demand 3 of lists of filings and withdrawals
+-- (from `Refiling` on), and the tables of cases.
 pub mod Turns
 pub mod Lists
 pub mod Programs
@@ -9,5 +10,10 @@ pub mod Tables
 pub mod General
 pub mod Hopeless
 pub mod News
+pub mod Refiling
+pub mod Keeping
+pub mod Records
+pub mod Demand3With
 pub mod Cases
 pub mod GeneralCases
+pub mod WithdrawalCases

@@ -1,8 +1,10 @@
 -- One call of a list. `Held G S K` is the store law of `store` (`Holding`) for the plan's equations: the store S has its length and reduced
 -- form, the lists that solve it are those that satisfy each entry of K, and the entries of K are in range.
+--     positive-refusal, kept-passes     a call that is not kept was refused, and one that is kept was not
 --     unkept-same        a call that is not kept leaves its store
 --     within, lent       the accepted plan is within its limits, and its parts are as it asks
 --     held-empty         the empty store, with nothing kept
+--     refusal-is         what is left to refuse a call that is lent the plan
 --     turn               what demand 3 claims of a call that is lent the plan
 --     held-kept          the state after a call that is kept
 -- Assumes nothing.
@@ -37,7 +39,7 @@ abbrev pub Held : Given → List ℕ → List (ℕ × ℕ) → Type 0
 Held G = Holds (G .numbers .p) (columns (G .numbers)) (G .numbers .s) (product (G .radices)) (equation G)
 
 -- a call that is not kept was refused
-positive-refusal : (k : ℕ) (vs : List ℕ) → isKept (causes.answer k vs) ≡ false → 0 < k
+pub positive-refusal : (k : ℕ) (vs : List ℕ) → isKept (causes.answer k vs) ≡ false → 0 < k
 positive-refusal zero vs e = absurd (true≢false e)
 positive-refusal (suc k) vs e = omega arith
 
@@ -59,7 +61,7 @@ kept-unless implied h = refl
 kept-unless contradiction h = absurd (h refl)
 
 -- a kept answer: the refusal is 0
-kept-passes : (k : ℕ) (vs : List ℕ) → isKept (causes.answer k vs) ≡ true → k ≡ 0
+pub kept-passes : (k : ℕ) (vs : List ℕ) → isKept (causes.answer k vs) ≡ true → k ≡ 0
 kept-passes zero vs e = refl
 kept-passes (suc k) vs e = absurd (false≢true e)
 
@@ -77,7 +79,7 @@ module _ (G : Given) (accepted : Accepted G) where
   residues i v l = equation-residues G i v within lent (omega (arith, within .value-high))
 
   module _ (S : List ℕ) (K : List (ℕ × ℕ)) (h : Held G S K) (i v : ℕ) where
-    refusal-is : refusal (call G S i v) ≡ first (entryCause G i ∷ valueCause (G .numbers) v ∷ conflictCause G S i v ∷ [])
+    pub refusal-is : refusal (call G S i v) ≡ first (entryCause G i ∷ valueCause (G .numbers) v ∷ conflictCause G S i v ∷ [])
     unfolding refusal
     refusal-is =
         accepted-call G accepted (Store (length S)) (fileOwn S i v) (eq-eqb _ _ (h .size))

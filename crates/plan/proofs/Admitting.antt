@@ -85,7 +85,7 @@ module _ (G : Given) (own : Own) where
   numbered = numberCauses (G .numbers .p) (G .numbers .s) (G .numbers .n) (G .numbers .m) (G .numbers .t) (G .radices)
 
   parts : List (ℕ × Bool)
-  parts = partCauses G (ownFits own (G .numbers))
+  parts = partCauses G (ownFits own (G .numbers) (G .radices))
 
   split : (rest : Given → List (ℕ × Bool)) → first (callCauses G own rest) ≡ orElse (first numbered) (orElse (first parts) (first (rest G)))
   unfolding callCauses numbered parts
@@ -96,7 +96,7 @@ module _ (G : Given) (own : Own) where
   pub record Unrefused (rest : Given → List (ℕ × Bool)) : Type 0 where
     pub within : Within (G .numbers)
     pub lent : Lent G
-    pub own-fits : ownFits own (G .numbers) ≡ true
+    pub own-fits : ownFits own (G .numbers) (G .radices) ≡ true
     pub rest-none : first (rest G) ≡ 0
 
   pub unrefused : (rest : Given → List (ℕ × Bool)) → first (callCauses G own rest) ≡ 0 → Unrefused rest
@@ -105,7 +105,7 @@ module _ (G : Given) (own : Own) where
       let none = none-of (first numbered) (first parts) (first (rest G)) (sym (split rest) ∙ e) in
       let within = within-of (G .numbers .p) (G .numbers .s) (G .numbers .n) (G .numbers .m) (G .numbers .t) (G .radices) (none .0) in
       let fit = radices-of (G .numbers .p) (G .numbers .s) (G .numbers .n) (G .numbers .m) (G .numbers .t) (G .radices) (none .0) in
-      let lent = lent-of G (ownFits own (G .numbers)) within (fit .0) (fit .1) (none .1) in
+      let lent = lent-of G (ownFits own (G .numbers) (G .radices)) within (fit .0) (fit .1) (none .1) in
       record { within = within; lent = lent .0; own-fits = lent .1; rest-none = none .2 }
 
   -- then another call on the same plan and parts is left its own causes alone
@@ -125,7 +125,7 @@ module _ (G : Given) (own : Own) where
     pub same : G .numbers ≡ Q
     pub within : Within Q
     pub lent : Lent (lend Q (G .radices) (G .weights) (G .tables) (G .products))
-    pub own-fits : ownFits own Q ≡ true
+    pub own-fits : ownFits own Q (G .radices) ≡ true
     pub rest : (causes : Given → List (ℕ × Bool)) → first (callCauses G own causes) ≡ first (causes (lend Q (G .radices) (G .weights) (G .tables) (G .products)))
 
   pub admission : {Q : Plan} → admitted G own ≡ answerOf (Accepted Q) → Admitted Q
@@ -143,7 +143,7 @@ module _ (G : Given) (own : Own) where
       })
 
 -- a plan that is accepted by itself leaves a call its own causes alone
-pub accepted-call : (G : Given) → first (checkCauses G) ≡ 0 → (own : Own) (rest : Given → List (ℕ × Bool)) → ownFits own (G .numbers) ≡ true
+pub accepted-call : (G : Given) → first (checkCauses G) ≡ 0 → (own : Own) (rest : Given → List (ℕ × Bool)) → ownFits own (G .numbers) (G .radices) ≡ true
     → first (callCauses G own rest) ≡ first (rest G)
 unfolding numbered parts
 accepted-call G accepted own rest e =
@@ -153,7 +153,7 @@ accepted-call G accepted own rest e =
 
 -- what `admit` answers, by the constructor's answer and the parts' refusal
 module _ (p s n m t : ℕ) (R w T d : List ℕ) (own : Own) where
-  refusal-is : (a b k : ℕ) → first (numberCauses p s n m t R) ≡ a → first (partCauses (given p s n m t R w T d) (ownFits own (plan p s n m t))) ≡ b
+  refusal-is : (a b k : ℕ) → first (numberCauses p s n m t R) ≡ a → first (partCauses (given p s n m t R w T d) (ownFits own (plan p s n m t) R)) ≡ b
       → orElse a (orElse b 0) ≡ k → first (callCauses (given p s n m t R w T d) own (λ _. [])) ≡ k
   unfolding numbered parts
   refusal-is a b k ha hb e = split (given p s n m t R w T d) own (λ _. []) ∙ ap₂ (λ (i j : ℕ). orElse i (orElse j 0)) ha hb ∙ e
@@ -170,16 +170,16 @@ module _ (p s n m t : ℕ) (R w T d : List ℕ) (own : Own) where
       refused-answer k _ (numbersOf (plan p s n m t)) (sym (refusal-is k _ k (r .0) refl (whole k _ (r .1)))) (r .1)
 
   module _ (Q : Plan) (e : checked p s n m t R ≡ answerOf (Accepted Q)) where
-    over : (k : ℕ) → k ≡ first (partCauses (lend Q R w T d) (ownFits own Q)) → first (callCauses (given p s n m t R w T d) own (λ _. [])) ≡ orElse k 0
+    over : (k : ℕ) → k ≡ first (partCauses (lend Q R w T d) (ownFits own Q R)) → first (callCauses (given p s n m t R w T d) own (λ _. [])) ≡ orElse k 0
     over k h =
         let a = accepted-plan p s n m t R e in
-        refusal-is 0 k (orElse k 0) (a .0) (ap (λ (P : Plan). first (partCauses (lend P R w T d) (ownFits own P))) (a .1) ∙ sym h) refl
+        refusal-is 0 k (orElse k 0) (a .0) (ap (λ (P : Plan). first (partCauses (lend P R w T d) (ownFits own P R))) (a .1) ∙ sym h) refl
 
-    pub admit-parts : (k : ℕ) → k ≡ first (partCauses (lend Q R w T d) (ownFits own Q)) → 0 < k → answerOf (Refused k) ≡ admitted (given p s n m t R w T d) own
+    pub admit-parts : (k : ℕ) → k ≡ first (partCauses (lend Q R w T d) (ownFits own Q R)) → 0 < k → answerOf (Refused k) ≡ admitted (given p s n m t R w T d) own
     unfolding admitted answerOf
     admit-parts k h l = refused-answer k _ (numbersOf (plan p s n m t)) (sym (over k h ∙ whole k 0 l)) l
 
-    pub admit-passed : 0 ≡ first (partCauses (lend Q R w T d) (ownFits own Q)) → answerOf (Accepted Q) ≡ admitted (given p s n m t R w T d) own
+    pub admit-passed : 0 ≡ first (partCauses (lend Q R w T d) (ownFits own Q R)) → answerOf (Accepted Q) ≡ admitted (given p s n m t R w T d) own
     unfolding admitted answerOf
     admit-passed h =
         ap (λ (P : Plan). gives (numbersOf P)) (sym (accepted-plan p s n m t R e .1)) ∙ given-answer _ (numbersOf (plan p s n m t)) (over 0 h)

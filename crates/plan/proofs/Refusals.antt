@@ -3,7 +3,7 @@
 --     first-append                          two lists of causes in turn: the first list's refusal, or the second's where it has none
 --     first-refused, first-passed           the same by the first list's refusal
 --     NoneMet, none-met                     where a list refuses nothing, none of its causes is met
---     result-refused                        a refusal leaves a lent slice as it was
+--     result-refused                        a refusal leaves what is lent as it was
 --     answer-refuses, answer-gives, refused-answer, given-answer, number-answer       an answer by its refusal, and back
 -- Assumes nothing.
 use mathlib.Core.Path.{_≡_, refl, sym, ap, _∙_}
@@ -53,7 +53,7 @@ first-none a b h e = neither-refuses (first a) (first b) (sym (first-append a b 
     neither-refuses zero k e = (refl, e)
     neither-refuses (suc j) k e = absurd (omega arith)
 
-pub result-refused {ℓ} : {A : Type ℓ} (k : ℕ) (new old : List A) → 0 < k → result k new old ≡ old
+pub result-refused {ℓ} : {A : Type ℓ} (k : ℕ) (new old : A) → 0 < k → result k new old ≡ old
 result-refused zero new old pos = absurd (omega arith)
 result-refused (suc k) new old pos = refl
 

@@ -3,7 +3,7 @@
 -- definition gives this paper's number and values for each of the enum's cases, and the promises use this definition"; that definition is
 -- `answerOf` beside each enum. Stands on the standard library alone; every call above states its causes and its answer so.
 --     first causes         the number of the first cause whose condition holds, else 0: the call's refusal
---     result k new old     what a call leaves in a lent slice: new where its refusal k is 0, and old, the bytes at entry, otherwise
+--     result k new old     what a call leaves in what it is lent: new where its refusal k is 0, and old, as it was at entry, otherwise
 --     Answer               `gives vs`: accepted, 01's number 0 with the values vs; `refuses k`: 01's number k, and no values
 --     answer k vs          the answer of a call by its refusal k and its values vs
 --     numberOf a           01's number of an answer
@@ -15,7 +15,7 @@ abbrev pub first : List (ℕ × Bool) → ℕ
 first [] = 0
 first (cause ∷ causes) = cond (cause .1) (cause .0) (first causes)
 
-abbrev pub result {ℓ} : {A : Type ℓ} → ℕ → List A → List A → List A
+abbrev pub result {ℓ} : {A : Type ℓ} → ℕ → A → A → A
 result zero new old = new
 result (suc k) new old = old
 

@@ -8,7 +8,8 @@
 --     valuesFit P w T d           each weight and table value is below p, as a test
 --     storeSize C                 the bytes of a store, "C(C+1)/2 + C bytes" (02, C-16)
 --     fullSize C                  the bytes of a store in the layout before that, "C rows of C+1 bytes"
---     ownFits own P               the call's own parts have the lengths that the plan says: a row or β has C places, digits are n
+--     ownFits own P R             the call's own parts have the lengths that the plan says: a row or β has C places, digits are n, records are as
+--                                 many as entries
 --     partCauses G fits           causes 4 ("cause 4 their number", of the radices) and 5; fits says whether the call's own parts have their lengths
 --     callCauses G own rest       all causes of a call that is lent a plan: 1 to 3, 4 and 5, then the rest, the call's own
 --     checkCauses G               the causes of the call `check`, which has none of its own: 1 2 3 4 5
@@ -18,16 +19,16 @@ use mathlib.Core.Path.{_≡_}
 use mathlib.Core.Bool.{Bool, true, not, _&&_}
 use mathlib.Core.List.{List, [], _∷_, _++_}
 use Prim.Native.Nat.{ℕ, _+_, _*_, _/_}
-use lib.Dec.{eqb}
+use lib.Dec.{eqb, leb}
 use lib.ListN.{length}
 use Rattle.lists.specs.Places.{sum}
 use Rattle.field.specs.Residues.{Residues}
 use Rattle.field.specs.Rows.{allBelow}
 use Rattle.plan.specs.Causes.{first, Answer, answer}
-use Rattle.plan.specs.Numbers.{variables, columns, numberCauses, plan, numbersOf, Radices}
+use Rattle.plan.specs.Numbers.{variables, columns, product, numberCauses, plan, numbersOf, Radices}
 use Rattle.plan.specs.declared.numbers.Plan.{Plan}
 use Rattle.plan.specs.declared.admission.Own.{Own}
-use Rattle.plan.specs.declared.admission.Own.the-variants.{Nothing, Row, Store, StoreAndRow, StoreAndFull, Digits}
+use Rattle.plan.specs.declared.admission.Own.the-variants.{Nothing, Row, Store, StoreAndRow, StoreAndFull, StoresAndRecords, Digits}
 
 pub record Given : Type 0 where
   pub numbers : Plan
@@ -59,14 +60,17 @@ unfoldable pub fullSize : ℕ → ℕ
 fullSize C = C * (C + 1)
 
 -- "a lent part (weights, tables, d, row, β, store, digits) of another length than the plan says": the last four, by the lengths lent. A move is
--- lent a store in either layout
-abbrev pub ownFits : Own → Plan → Bool
-ownFits Nothing P = true
-ownFits (Row k) P = eqb k (columns P)
-ownFits (Store k) P = eqb k (storeSize (columns P))
-ownFits (StoreAndRow k j) P = eqb k (storeSize (columns P)) && eqb j (columns P)
-ownFits (StoreAndFull k j) P = eqb k (storeSize (columns P)) && eqb j (fullSize (columns P))
-ownFits (Digits k) P = eqb k (P .n)
+-- lent a store in either layout; a call with records is lent a store, a work store and the records, and 02, C-18, says: "A list of records of
+-- another length, or a count above it, is cause 4"
+abbrev pub ownFits : Own → Plan → List ℕ → Bool
+ownFits Nothing P R = true
+ownFits (Row k) P R = eqb k (columns P)
+ownFits (Store k) P R = eqb k (storeSize (columns P))
+ownFits (StoreAndRow k j) P R = eqb k (storeSize (columns P)) && eqb j (columns P)
+ownFits (StoreAndFull k j) P R = eqb k (storeSize (columns P)) && eqb j (fullSize (columns P))
+ownFits (StoresAndRecords k j r count) P R =
+    eqb k (storeSize (columns P)) && (eqb j (storeSize (columns P)) && (eqb r (product R) && leb count r))
+ownFits (Digits k) P R = eqb k (P .n)
 
 abbrev pub partCauses : Given → Bool → List (ℕ × Bool)
 partCauses G fits =
@@ -77,7 +81,7 @@ partCauses G fits =
 unfoldable pub callCauses : Given → Own → (Given → List (ℕ × Bool)) → List (ℕ × Bool)
 callCauses G own rest =
     let P = G .numbers in
-    numberCauses (P .p) (P .s) (P .n) (P .m) (P .t) (G .radices) ++ (partCauses G (ownFits own P) ++ rest G)
+    numberCauses (P .p) (P .s) (P .n) (P .m) (P .t) (G .radices) ++ (partCauses G (ownFits own P (G .radices)) ++ rest G)
 
 abbrev pub checkCauses : Given → List (ℕ × Bool)
 checkCauses G = callCauses G Nothing (λ _. [])

@@ -1,19 +1,24 @@
 // What every call that is lent a plan does first: causes 1 to 5, with the call's own parts among those of cause 4.
 ghost use mathlib.Core.Path.{_≡_};
+ghost use mathlib.Core.Bool.{true, _&&_};
 ghost use Prim.Native.Nat.{_≤_};
+ghost use lib.Dec.{eqb, leb};
 ghost use Rattle.plan.specs.Numbers.{Within, answerOf};
+ghost use Rattle.plan.specs.Numbers as numbers;
 ghost use Rattle.plan.specs.Parts as specs;
 use crate::numbers::Checked;
 use crate::numbers::Plan;
 use crate::parts::part_refusal;
+use crate::radices::product;
 
-// The call's own parts, by the lengths in which they were lent.
+// The call's own parts, by the lengths in which they were lent; of a store, a work store and records, with the records' count.
 pub enum Own {
     Nothing,
     Row(usize),
     Store(usize),
     StoreAndRow(usize, usize),
     StoreAndFull(usize, usize),
+    StoresAndRecords(usize, usize, usize, usize),
     Digits(usize),
 }
 
@@ -33,10 +38,24 @@ fn full_size(c: usize) -> usize
     c * (c + 1)
 }
 
+// Whether there are as many records as entries, and the count is not above them.
+fn records_fit(records: usize, count: usize, plan: Plan, radices: &[u8]) -> bool
+    requires { ⌜ numbers.radicesFit (plan .p) (now radices) ≡ true ⌝ }
+    requires { ⌜ numbers.product (now radices) ≤ 4096 ⌝ }
+    ensures { λ r. ⌜ r ≡ (eqb records (numbers.product (now (radices .entry))) && leb count records) ⌝ }
+{
+    if records != product(radices) {
+        return false;
+    }
+    count <= records
+}
+
 // Whether they have the lengths that the plan says.
-fn own_fits(own: Own, plan: Plan) -> bool
+fn own_fits(own: Own, plan: Plan, radices: &[u8]) -> bool
     requires { ⌜ Within plan ⌝ }
-    ensures { λ r. ⌜ r ≡ specs.ownFits own plan ⌝ }
+    requires { ⌜ numbers.radicesFit (plan .p) (now radices) ≡ true ⌝ }
+    requires { ⌜ numbers.product (now radices) ≤ 4096 ⌝ }
+    ensures { λ r. ⌜ r ≡ specs.ownFits own plan (now (radices .entry)) ⌝ }
 {
     let c = plan.columns();
     match own {
@@ -54,6 +73,16 @@ fn own_fits(own: Own, plan: Plan) -> bool
                 return false;
             }
             j == full_size(c)
+        }
+        Own::StoresAndRecords(k, j, r, count) => {
+            let size = store_size(c);
+            if k != size {
+                return false;
+            }
+            if j != size {
+                return false;
+            }
+            records_fit(r, count, plan, radices)
         }
         Own::Digits(k) => k == plan.n,
     }
@@ -77,7 +106,7 @@ pub fn admit(
     match Plan::new(p, s, n, m, t, radices) {
         Checked::Refused(k) => Checked::Refused(k),
         Checked::Accepted(plan) => {
-            let k = part_refusal(plan, radices, weights, tables, d, own_fits(own, plan));
+            let k = part_refusal(plan, radices, weights, tables, d, own_fits(own, plan, radices));
             if k != 0 {
                 return Checked::Refused(k);
             }

@@ -1,6 +1,7 @@
 -- The calls on a store: which stores are ready for a filing, and what filing answers and leaves by its refusal.
 --     columns-small                    C is at most 1,024
 --     ready-of                         a store that meets neither of causes 4 and 6 is ready for a filing
+--     cleared-work                     a work store of the plan's length that is all zeros is the empty store
 --     refused-call                     a refusal is answered by its number, and leaves the store
 --     filed-call                       where the other causes are not met, cause 9 is whether the outcome is a contradiction, which leaves the store
 -- Assumes nothing.
@@ -9,7 +10,7 @@ use mathlib.Core.Bool.{true, cond}
 use mathlib.Core.List.{List}
 use Prim.Native.Nat.{ℕ, _≤_, _<_}
 use native.Mathlib.Omega.{arith}
-use lib.ListN.{length}
+use lib.ListN.{length, replicate, length-replicate}
 use Rattle.plan.specs.declared.numbers.Plan.{Plan}
 use Rattle.plan.specs.Causes.{result, answer}
 use Rattle.plan.specs.Numbers.{columns, Within}
@@ -19,7 +20,7 @@ use Rattle.plan.specs.Parts.{Given, storeSize}
 use Rattle.store.specs.Elimination.{Outcome, new, implied, contradiction, isReduced, cells, flat}
 use Rattle.store.specs.Filings.{isContradiction}
 use Rattle.store.specs.Stages.{Ready}
-use Rattle.store.specs.Calls.{equation, outcomeOf, answerOf, valuesOf, answered, filed}
+use Rattle.store.specs.Calls.{equation, emptyStore, outcomeOf, answerOf, valuesOf, answered, filed}
 use Rattle.store.specs.declared.elimination.Filed.{Filed}
 use Rattle.store.specs.declared.elimination.Filed.the-variants.{Refused}
 use Rattle.store.proofs.Bytes.{flat-cells}
@@ -38,6 +39,11 @@ ready-of P store within places h =
       places = places;
       reduced = isReduced-means (P .p) (columns P) (cells (columns P) store) .0 h;
     }
+
+pub cleared-work : (P : Plan) (k : ℕ) (out old : List ℕ) → out ≡ replicate k 0 → length out ≡ length old → length old ≡ storeSize (columns P)
+    → out ≡ emptyStore P
+cleared-work P k out old zeroed long places =
+    zeroed ∙ ap (λ (n : ℕ). replicate n 0) (sym (length-replicate k 0) ∙ ap length (sym zeroed) ∙ long ∙ places)
 
 -- what a refusal answers and leaves, where F is the call's refusal
 pub refused-call : (F k : ℕ) (vs out old : List ℕ) → k ≡ F → 0 < k → (answerOf (Refused k) ≡ answer F vs) × (old ≡ result F out old)

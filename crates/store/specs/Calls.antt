@@ -12,6 +12,7 @@
 --     answerOf a                 01's number and values for each case of filing's answer: the pivot column of `New`, none of `Implied`, the refusal's number
 --     valuesOf o                 the values that an outcome gives
 --     answered o                 the answer by its outcome o alone, where no cause before 9 is met
+--     columnOf a C old           the pivot column that filing gives; C, which is no column, where it gives none; old, as it was, of a refusal
 --     filed G store i v          the store after filing; what it spans is said by `Span`
 --     fileAnswer, fileStore      what `file` answers, and the store it leaves
 --     coefficients C store       the coefficients read off: "coefficient q is the right-hand side of row q"
@@ -84,6 +85,11 @@ valuesOf contradiction = []
 
 abbrev pub answered : Outcome → Answer
 answered o = answer (cond (isContradiction o) 9 0) (valuesOf o)
+
+abbrev pub columnOf : Answer → ℕ → ℕ → ℕ
+columnOf (gives []) C old = C
+columnOf (gives (c ∷ vs)) C old = c
+columnOf (refuses k) C old = old
 
 unfoldable pub filed : Given → List ℕ → ℕ → ℕ → List ℕ
 filed G store i v =

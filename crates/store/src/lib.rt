@@ -1,8 +1,8 @@
 // The store: reduced form, filing, which outputs are settled, reading off, and the moves from the layout before and back.
 //
 // A host or a program calls `test`, `file`, `settle`, `coefficients`, `to_half` and `to_full`, which take any numbers and bytes. `text` calls
-// `read_off` too, and `general` calls `file_entry`, on a store that they know to be in reduced form. How long a store is, is asked of
-// `store_size`. Stands on `plan` and `field`. Renders 01, "The store" and causes 6 to 9; 02, C-11 to C-13 and C-16; the theory of elimination is
+// `read_off` too, and `general` and `ledger` call `file_entry`, on a store that they know to be in reduced form; `ledger` asks `is_reduced` of
+// it. How long a store is, is asked of `store_size`. Stands on `plan` and `field`. Renders 01, "The store" and causes 6 to 9; 02, C-11 to C-13 and C-16; the theory of elimination is
 // in proofs/, and what follows from it of rows, moves and ranks in `laws`.
 mod calls;
 mod elimination;
@@ -20,4 +20,5 @@ pub use elimination::Filed;
 pub use elimination::file_entry;
 pub use elimination::read_off;
 pub use plan::store_size;
+pub use reduced::is_reduced;
 pub use settling::Settled;

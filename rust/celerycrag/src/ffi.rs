@@ -2,6 +2,8 @@
 //! Nothing compares these lines with the library's source: the random tests
 //! are what stands between a slip here and a host.
 
+use crate::Record;
+
 /// Declares the calls: each takes the plan's five numbers and four parts, a
 /// part as a pointer and a length, and then its own arguments.
 macro_rules! calls {
@@ -37,6 +39,29 @@ calls! {
         entry: usize,
         value: usize,
         column: *mut usize
+    );
+    celery_file_recorded(
+        store: *mut u8,
+        store_len: usize,
+        work: *mut u8,
+        work_len: usize,
+        records: *mut Record,
+        records_len: usize,
+        count: *mut usize,
+        entry: usize,
+        value: usize,
+        column: *mut usize
+    );
+    celery_withdraw(
+        store: *mut u8,
+        store_len: usize,
+        work: *mut u8,
+        work_len: usize,
+        records: *mut Record,
+        records_len: usize,
+        count: *mut usize,
+        entry: usize,
+        value: *mut u16
     );
     celery_coefficients(store: *const u8, store_len: usize, beta: *mut u8, beta_len: usize);
     celery_settle(

@@ -5,9 +5,10 @@
 //! one-input tables fed by weighted sums (links), and the fixed halves of some
 //! products. A [`Store`] files the entries of a table under a plan, one by one,
 //! and refuses an entry and a value in range exactly when no coefficients
-//! reproduce them together with all kept before. From the coefficients read off,
-//! a [`Program`] of sums and bootstraps is written; run on the digits of a kept
-//! entry it yields the kept value.
+//! reproduce them together with all kept before. A [`Ledger`] is a store with
+//! the list of its entries, so that one can be withdrawn. From the coefficients
+//! read off, a [`Program`] of sums and bootstraps is written; run on the digits
+//! of a kept entry it yields the kept value.
 //!
 //! All of it is in the clear: encryption, keys, noise and the search for plans
 //! are the host's.
@@ -151,6 +152,34 @@
 //! A forced residue may be s or more. Then the entry has an output that is no
 //! value, and none can be filed for it.
 //!
+//! # Correcting an output
+//!
+//! A [`Ledger`] keeps the list of entries beside the store:
+//! [`Ledger::withdraw`] takes one out, as if it had never been filed, and it
+//! can be filed with another value.
+//!
+//! ```
+//! use celerycrag::{Ledger, Plan, Record, Refusal, Shape};
+//!
+//! # fn main() -> Result<(), Refusal> {
+//! let shape = Shape { p: 3, s: 2, n: 2, m: 0, t: 1 };
+//! let plan = Plan::new(shape, vec![2, 2], vec![], vec![], vec![1, 1])?;
+//! let mut ledger = Ledger::new(&plan);
+//! for (entry, value) in [0, 1, 1, 0].into_iter().enumerate() {
+//!     ledger.file(entry, value)?;
+//! }
+//! assert_eq!(ledger.store().coefficients()?, [0, 1, 1, 0]);
+//!
+//! // Entry 3 is 1 from now on: the inclusive or.
+//! assert_eq!(ledger.withdraw(3)?, 0);
+//! ledger.file(3, 1)?;
+//! assert_eq!(ledger.count(), 4);
+//! assert_eq!(ledger.entries()[3], Record { entry: 3, value: 1 });
+//! assert_eq!(ledger.store().coefficients()?, [1, 1, 0, 0]);
+//! # Ok(())
+//! # }
+//! ```
+//!
 //! # Reading a listing back
 //!
 //! Who kept the printed program and lost the table gets it back, as long as the
@@ -215,12 +244,14 @@
 #![warn(missing_docs)]
 
 mod ffi;
+mod ledger;
 mod plan;
 mod program;
 pub mod raw;
 mod refusal;
 mod store;
 
+pub use ledger::{Ledger, Record};
 pub use plan::{Plan, Shape};
 pub use program::{Program, Ran, Step};
 pub use refusal::{ListingRefusal, Refusal};

@@ -2,11 +2,13 @@
 //!
 //! They take numbers and slices of any kind: the library tests everything it is
 //! lent, lengths too, and answers the number of a refusal, 0 where it accepts.
-//! A refused call leaves every lent slice and number as it was, but for the line
-//! that [`read_listing`] tells. The types of the crate's root are easier to use;
-//! these functions are for hosts that keep their own buffers, and for the tests.
+//! A refused call leaves every lent slice and number as it was, but for the
+//! line that [`read_listing`] tells, and for the work store of
+//! [`file_recorded`] and [`withdraw`], which a refusal after cause 5 leaves all
+//! zeros. The types of the crate's root are easier to use; these functions are
+//! for hosts that keep their own buffers, and for the tests.
 
-use crate::ffi;
+use crate::{ffi, Record};
 
 /// A plan as it is lent to a call: its five numbers and four parts, of any
 /// lengths and with any bytes.
@@ -91,6 +93,67 @@ pub fn file(plan: Lent, store: &mut [u8], entry: usize, value: usize, column: &m
         entry,
         value,
         column
+    )
+}
+
+/// Files an entry with its value beside records: the first `count` of them are
+/// the entries kept, and have to be those of the store. An entry that is not
+/// listed joins their end, and `count` becomes one more. `column` is as with
+/// [`file()`]. `work` is as long as a store; its old bytes do not matter, and all
+/// of it becomes zero unless a cause from 1 to 5 refuses.
+/// Causes 1 2 3 4 5 6 16 7 8 9.
+#[allow(clippy::too_many_arguments)]
+pub fn file_recorded(
+    plan: Lent,
+    store: &mut [u8],
+    work: &mut [u8],
+    records: &mut [Record],
+    count: &mut usize,
+    entry: usize,
+    value: usize,
+    column: &mut usize,
+) -> u8 {
+    call!(
+        celery_file_recorded,
+        plan,
+        store.as_mut_ptr(),
+        store.len(),
+        work.as_mut_ptr(),
+        work.len(),
+        records.as_mut_ptr(),
+        records.len(),
+        count,
+        entry,
+        value,
+        column
+    )
+}
+
+/// Withdraws a listed entry: its record is removed, those behind it close the
+/// gap, the freed one becomes zeros, `count` becomes one less, and the store
+/// becomes that of the remaining list. `value` becomes the value withdrawn. The
+/// rest is as with [`file_recorded`]. Causes 1 2 3 4 5 6 16 7 17.
+pub fn withdraw(
+    plan: Lent,
+    store: &mut [u8],
+    work: &mut [u8],
+    records: &mut [Record],
+    count: &mut usize,
+    entry: usize,
+    value: &mut u16,
+) -> u8 {
+    call!(
+        celery_withdraw,
+        plan,
+        store.as_mut_ptr(),
+        store.len(),
+        work.as_mut_ptr(),
+        work.len(),
+        records.as_mut_ptr(),
+        records.len(),
+        count,
+        entry,
+        value
     )
 }
 

@@ -5,8 +5,9 @@ use std::fmt;
 
 /// Why a call was turned down.
 ///
-/// A call tests the causes it can meet in the order of their numbers and
-/// answers the first that it meets. A refused call changes nothing.
+/// A call tests the causes it can meet in the order of their numbers, 16 alone
+/// between 6 and 7, and answers the first that it meets. A refused call changes
+/// nothing.
 ///
 /// ```
 /// use celerycrag::{Plan, Refusal, Shape};
@@ -28,7 +29,8 @@ impl Refusal {
     pub const RADIX: Refusal = Refusal { number: 2 };
     /// 3: n, L, t, C or the product of the radices is out of range.
     pub const RANGE: Refusal = Refusal { number: 3 };
-    /// 4: a part, the radices among them, has another length than the plan says.
+    /// 4: a part, the radices among them, has another length than the plan
+    /// says, or a count is above its list.
     pub const LENGTH: Refusal = Refusal { number: 4 };
     /// 5: a weight, a table value or a given coefficient is not below p.
     pub const NO_RESIDUE: Refusal = Refusal { number: 5 };
@@ -51,6 +53,11 @@ impl Refusal {
     // 14 is the filing program's alone.
     /// 15: no coefficients make the writer give exactly this.
     pub const NOT_WRITTEN: Refusal = Refusal { number: 15 };
+    /// 16: the records are not those of the store: they name an entry twice, or
+    /// an entry of theirs is refused, or filing them gives another store.
+    pub const RECORDS: Refusal = Refusal { number: 16 };
+    /// 17: the withdrawn entry is not listed.
+    pub const NOT_LISTED: Refusal = Refusal { number: 17 };
 
     /// The answer of a call as a result: 0 is acceptance.
     pub(crate) fn unless_0(number: u8) -> Result<(), Refusal> {
@@ -60,7 +67,8 @@ impl Refusal {
         }
     }
 
-    /// The number of the cause: 1 to 13, or 15. 14 is the filing program's alone.
+    /// The number of the cause: 1 to 13, or 15 to 17. 14 is the filing
+    /// program's alone.
     pub fn number(self) -> u8 {
         self.number
     }
@@ -71,7 +79,7 @@ impl Refusal {
             1 => "p is no odd prime from 3 to 251",
             2 => "s or a radix is below 2 or above p",
             3 => "n, L, t, C or the product of the radices is out of range",
-            4 => "a part has another length than the plan says",
+            4 => "a part has another length than the plan says, or a count is above its list",
             5 => "a weight, a table value or a given coefficient is not below p",
             6 => "the store is not in reduced form",
             7 => "the entry is not below the product of the radices",
@@ -82,6 +90,8 @@ impl Refusal {
             12 => "a digit is not below its own radix",
             13 => "a line of the text is malformed or missing",
             15 => "no coefficients make the writer give exactly this",
+            16 => "the records are not those of the store",
+            17 => "the withdrawn entry is not listed",
             _ => "a cause that has no sentence here",
         }
     }

@@ -14,6 +14,15 @@ pub enum Filed {
     Implied,
 }
 
+/// What a filing answered, from the column that it told.
+pub(crate) fn filed(plan: &Plan, column: usize) -> Filed {
+    if column < plan.columns() {
+        Filed::New { column }
+    } else {
+        Filed::Implied
+    }
+}
+
 /// What the store says of an entry, kept or not.
 #[derive(Clone, Copy, Debug, PartialEq, Eq, Hash)]
 pub enum Settled {
@@ -46,6 +55,9 @@ pub enum Settled {
 /// Its bytes are, row after row, the columns q to C - 1 of row q and then its
 /// right-hand side: C (C + 1) / 2 + C bytes. Row q begins at byte
 /// q (C + 1) - q (q - 1) / 2.
+///
+/// A store does not tell which entries it was made of, so none can be taken out
+/// of it; a [`Ledger`](crate::Ledger) keeps their list beside it.
 ///
 /// # Stores on disk
 ///
@@ -144,6 +156,11 @@ impl Store {
         &self.bytes
     }
 
+    /// The plan, and the bytes for a call that writes them.
+    pub(crate) fn lent_mut(&mut self) -> (&Plan, &mut [u8]) {
+        (&self.plan, &mut self.bytes)
+    }
+
     /// Gives the bytes away.
     pub fn into_bytes(self) -> Vec<u8> {
         self.bytes
@@ -159,11 +176,7 @@ impl Store {
         let mut column = 0;
         let number = raw::file(self.plan.lent(), &mut self.bytes, entry, value, &mut column);
         Refusal::unless_0(number)?;
-        if column < self.plan.columns() {
-            Ok(Filed::New { column })
-        } else {
-            Ok(Filed::Implied)
-        }
+        Ok(filed(&self.plan, column))
     }
 
     /// The coefficients β read off: they reproduce every entry kept.

@@ -3,11 +3,13 @@
 //! are few.
 
 mod common;
+use celerycrag::{raw, Record};
 use common::faults::fault;
 use common::layout::Layout;
 use common::lots::lot_of;
 use common::plans::{outline, primes, product, reduced, Owned};
 use common::random::{cases, Random};
+use common::recorded::Recorded;
 use common::tally::Tally;
 use common::twins::{self, Lot};
 use reference::Settled;
@@ -37,7 +39,7 @@ const MIXED: [([usize; 5], &[u8]); 6] = [
     ([241, 3, 5, 26, 32], &[2, 3, 4, 5, 34]),
 ];
 
-/// All fifteen calls on a lot of this plan with other residues, a few more
+/// All seventeen calls on a lot of this plan with other residues, a few more
 /// filings, and a program.
 fn large(random: &mut Random, plan: Owned, tally: &mut Tally) {
     let mut lot = lot_of(random, plan);
@@ -109,10 +111,65 @@ fn c_1024() {
     large(&mut random, plan, &mut tally);
 }
 
+/// The longest list of records that there can be, 4,096 with C = 1,024. The
+/// reference would take long: the stores have to be those that the library
+/// leaves without records.
+#[test]
+fn the_longest_list() {
+    let mut random = Random::new(4, 0);
+    let mut plan = Owned::zeros([17, 2, 12, 52, 15]).drawn(&mut random);
+    // The first link counts the digits that are 1, and is 1 where there are
+    // none: at entry 0 alone, which therefore no others imply.
+    plan.weights[..12].fill(1);
+    plan.tables[..17].fill(0);
+    plan.tables[0] = 1;
+    // All values are 0, so that all entries are kept.
+    let others = (1..4_096).map(|entry| (entry, 0));
+    let without = Recorded::filed(&mut random, &plan, others);
+    let mut full = without.store.clone();
+    let mut pivot = 9_999;
+    assert_eq!(raw::file(plan.lent(), &mut full, 0, 1, &mut pivot), 0);
+    assert!(without.count == 4_095 && pivot < 1_024);
+
+    // Its record first, and the others close the gap.
+    let (entry, value) = (0, 1);
+    let mut records = vec![Record { entry, value }];
+    records.extend(without.listed());
+    let (mut store, mut work, mut count) = (full.clone(), vec![0xA5; full.len()], 4_096);
+    let (list, end, mut told) = (&mut records, &mut count, 9);
+    let lent = plan.lent();
+    let answer = raw::withdraw(lent, &mut store, &mut work, list, end, 0, &mut told);
+    assert_eq!((answer, told, *end), (0, 1, 4_095));
+    assert!(store == without.store && work.iter().all(|&x| x == 0));
+    assert!(list[..4_095] == *without.listed() && list[4_095] == Record::default());
+
+    // Filed again it is new, and the last of the list.
+    let mut column = 9_999;
+    work.fill(0xA5);
+    let (kept, spare) = (&mut store, &mut work);
+    let answer = raw::file_recorded(lent, kept, spare, list, end, 0, 1, &mut column);
+    assert_eq!((answer, column, *end), (0, pivot, 4_096));
+    assert!(store == full && work.iter().all(|&x| x == 0));
+    assert_eq!(records[4_095], Record { entry, value });
+
+    // In place of entry 4,095, which the others imply: the first of the list once
+    // more, what is no entry, and no value.
+    let [first, implied] = [records[0], records[4_094]];
+    assert_eq!([first.entry, implied.entry], [1, 4_095]);
+    for (entry, value) in [(1, 0), (4_096, 0), (4_095, 2)] {
+        let mut wrong = records.clone();
+        wrong[4_094] = Record { entry, value };
+        let (spare, list) = (&mut work, &mut wrong);
+        let answer = raw::withdraw(lent, &mut store, spare, list, &mut count, 7, &mut told);
+        assert_eq!((answer, count, told), (16, 4_096, 1));
+        assert!(store == full && work.iter().all(|&x| x == 0));
+    }
+}
+
 /// The largest numbers that the sums can meet: all bytes p - 1.
 #[test]
 fn nothing_overflows() {
-    let mut tally = Tally::default();
+    let (mut random, mut tally) = (Random::new(3, 0), Tally::default());
     for shape in [
         [251, 2, 12, 52, 15],
         [251, 251, 1, 30, 32],
@@ -140,6 +197,7 @@ fn nothing_overflows() {
             row: vec![0; columns],
             store: Layout::Half.store(&rows),
             full: Layout::Full.store(&rows),
+            recorded: Recorded::filed(&mut random, &plan, [(last, plan.s - 1), (1, 0)]),
             room: vec![7; 4 * plan.step_count()],
             steps: vec![],
             digits: plan.digits(last),
@@ -290,7 +348,8 @@ fn radices_at_the_limits() {
     }
 }
 
-/// The same lists in all fifteen calls, where the rest of a lot fits n digits.
+/// The same lists in all seventeen calls, where the rest of a lot fits n
+/// digits.
 #[test]
 fn radices_at_the_limits_in_every_call() {
     let mut tally = Tally::default();

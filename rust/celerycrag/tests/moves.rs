@@ -11,6 +11,7 @@ use common::lots::pairs;
 use common::old::Old;
 use common::plans::{outline, reduced, Owned};
 use common::random::{cases, Random};
+use common::recorded::Recorded;
 use common::tally::Tally;
 use common::twins;
 
@@ -306,6 +307,15 @@ fn a_full_store_in_other_calls() {
             assert_eq!(settled.err(), Some(4));
             let general = twins::general(&plan, &mut full, &mut tally);
             assert_eq!(general, Err(4));
+            // As the store with records, and as the work store.
+            let empty = Recorded::empty(&mut random, &plan);
+            let (mut store, mut work) = (empty.clone(), empty);
+            (store.store, work.work) = (full.clone(), full.clone());
+            for mut wrong in [store, work] {
+                let filed = wrong.file(&plan, entry, value, &mut tally);
+                assert_eq!(filed, Err(4));
+                assert_eq!(wrong.withdraw(&plan, entry, &mut tally), Err(4));
+            }
             let mut beta = random.bytes(plan.columns(), 256);
             let read_off = twins::coefficients(&plan, &full, &mut beta, &mut tally);
             assert_eq!(read_off, 4);

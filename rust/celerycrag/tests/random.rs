@@ -9,6 +9,7 @@ use common::faults::{fault, no_radix};
 use common::lots::{lot, noise, pairs};
 use common::plans::{outline, product, Owned};
 use common::random::{cases, Random};
+use common::recorded::Recorded;
 use common::tally::{Tally, CAUSES};
 use common::twins::{self, Lot};
 use reference::Settled;
@@ -115,6 +116,7 @@ fn foreign_call(random: &mut Random, plan: &Owned, store: &[u8], tally: &mut Tal
         value: random.below(plan.s),
         row: vec![0; plan.columns()],
         store: store.to_vec(),
+        recorded: Recorded::empty(random, plan),
         full: plan.widened(store),
         beta: vec![0; plan.columns()],
         room: vec![],

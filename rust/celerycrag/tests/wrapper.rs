@@ -2,7 +2,9 @@
 //! they never panic.
 
 use celerycrag::raw::{self, Lent};
-use celerycrag::{Filed, ListingRefusal, Plan, Program, Ran, Refusal, Settled, Shape, Step, Store};
+use celerycrag::{
+    Filed, Ledger, ListingRefusal, Plan, Program, Ran, Record, Refusal, Settled, Shape, Step, Store,
+};
 use std::error::Error;
 
 const XOR: Shape = Shape {
@@ -168,14 +170,19 @@ fn any_number_may_be_given() {
         }
     }
     let (plan, mut store) = (xor(), Store::new(&xor()));
-    for number in [4, 1 << 32, 1 << 63, usize::MAX] {
+    let mut ledger = Ledger::new(&plan);
+    for number in [4, 1 << 16, 1 << 32, 1 << 63, usize::MAX] {
         assert_eq!(plan.row(number), Err(Refusal::NO_ENTRY));
         assert_eq!(plan.digits(number), Err(Refusal::NO_ENTRY));
         assert_eq!(store.file(number, number), Err(Refusal::NO_ENTRY));
         assert_eq!(store.file(0, number), Err(Refusal::NO_VALUE));
         assert_eq!(store.settled(number), Err(Refusal::NO_ENTRY));
+        assert_eq!(ledger.file(number, number), Err(Refusal::NO_ENTRY));
+        assert_eq!(ledger.file(0, number), Err(Refusal::NO_VALUE));
+        assert_eq!(ledger.withdraw(number), Err(Refusal::NO_ENTRY));
     }
     assert_eq!(store, Store::new(&plan));
+    assert_eq!(ledger, Ledger::new(&plan));
 }
 
 #[test]
@@ -292,6 +299,96 @@ fn a_store_moves_from_the_full_layout_and_back() {
         damaged[place] = byte;
         assert_eq!(from_full(&damaged), Err(Refusal::DAMAGED), "byte {place}");
     }
+}
+
+/// Records from entries and their values.
+fn records<const N: usize>(list: [(u16, u16); N]) -> [Record; N] {
+    list.map(|(entry, value)| Record { entry, value })
+}
+
+#[test]
+fn a_ledger_files_and_withdraws() {
+    let plan = xor();
+    let mut ledger = Ledger::new(&plan);
+    assert_eq!((ledger.count(), ledger.entries()), (0, &[][..]));
+    assert_eq!(ledger.plan(), &plan);
+    assert_eq!(ledger.withdraw(1), Err(Refusal::NOT_LISTED));
+    assert_eq!(ledger, Ledger::new(&plan));
+
+    assert_eq!(ledger.file(1, 1), Ok(Filed::New { column: 1 }));
+    assert_eq!(ledger.file(2, 1), Ok(Filed::New { column: 0 }));
+    assert_eq!(ledger.file(3, 0), Ok(Filed::New { column: 2 }));
+    assert_eq!(ledger.file(0, 0), Ok(Filed::Implied));
+    assert_eq!(ledger.entries(), records([(1, 1), (2, 1), (3, 0), (0, 0)]));
+    assert_eq!(ledger.store().coefficients(), Ok(vec![0, 1, 1, 0]));
+    let full = ledger.clone();
+    // Again, and with another value.
+    assert_eq!(ledger.file(3, 0), Ok(Filed::Implied));
+    assert_eq!(ledger.file(3, 1), Err(Refusal::CONTRADICTION));
+    assert_eq!(ledger.file(3, 2), Err(Refusal::NO_VALUE));
+    assert_eq!(ledger.file(4, 0), Err(Refusal::NO_ENTRY));
+    assert_eq!(ledger, full);
+
+    assert_eq!(ledger.withdraw(1), Ok(1));
+    assert_eq!(ledger.entries(), records([(2, 1), (3, 0), (0, 0)]));
+    assert_eq!(ledger.store().settled(1), Ok(free(2)));
+    assert_eq!(ledger.withdraw(1), Err(Refusal::NOT_LISTED));
+    assert_eq!(ledger.file(1, 0), Ok(Filed::New { column: 2 }));
+    assert_eq!(ledger.entries(), records([(2, 1), (3, 0), (0, 0), (1, 0)]));
+    assert_eq!(settled(ledger.store()), [0, 0, 1, 0].map(forced));
+
+    // The same entries in any order have the same store.
+    let mut store = Store::new(&plan);
+    for (entry, value) in [0, 0, 1, 0].into_iter().enumerate() {
+        store.file(entry, value).expect("kept");
+    }
+    assert_eq!(ledger.store(), &store);
+    for (entry, value) in [(2, 1), (1, 0), (3, 0), (0, 0)] {
+        assert_eq!(ledger.withdraw(entry), Ok(value));
+    }
+    assert_eq!(ledger, Ledger::new(&plan));
+    assert_eq!(full.into_store().coefficients(), Ok(vec![0, 1, 1, 0]));
+}
+
+#[test]
+fn a_ledger_comes_back_from_its_store_and_list() {
+    let plan = xor();
+    let mut ledger = Ledger::new(&plan);
+    for (entry, value) in [(2, 1), (0, 0), (1, 1)] {
+        ledger.file(entry, value).expect("kept");
+    }
+    let from = |list: &[Record]| Ledger::from_store(ledger.store().clone(), list);
+    assert_eq!(from(ledger.entries()), Ok(ledger.clone()));
+    // In another order, and without what the others imply.
+    for list in [&[(1, 1), (2, 1), (0, 0)][..], &[(2, 1), (1, 1)]] {
+        let record = |&(entry, value)| Record { entry, value };
+        let list: Vec<Record> = list.iter().map(record).collect();
+        let mut other = from(&list).expect("a list of this store");
+        assert_eq!(other.entries(), list);
+        assert_eq!(other.store(), ledger.store());
+        assert_eq!(other.withdraw(2), Ok(1));
+        assert_eq!(other.count(), list.len() - 1);
+    }
+    for wrong in [
+        &[][..],
+        &[(2, 1)],
+        &[(2, 1), (1, 0)],
+        &[(2, 1), (1, 1), (3, 0)],
+        &[(2, 1), (1, 1), (1, 1)],
+        &[(2, 1), (1, 1), (4, 0)],
+        &[(2, 1), (1, 1), (0, 2)],
+        &[(2, 1), (1, 1), (256, 0)],
+        &[(2, 1), (1, 257), (0, 0)],
+        &[(2, 1), (1, 1), (0, 1)],
+    ] {
+        let record = |&(entry, value)| Record { entry, value };
+        let list: Vec<Record> = wrong.iter().map(record).collect();
+        assert_eq!(from(&list), Err(Refusal::RECORDS), "{wrong:?}");
+    }
+    // More records than there are entries.
+    let many = records([(2, 1), (0, 0), (1, 1), (3, 0), (3, 0)]);
+    assert_eq!(from(&many), Err(Refusal::LENGTH));
+    assert_eq!(from(&[Record::default(); 300]), Err(Refusal::LENGTH));
 }
 
 const fn forced(residue: u8) -> Settled {
@@ -513,9 +610,11 @@ fn refusals_are_errors_with_a_number_and_a_sentence() {
         Refusal::NO_DIGIT,
         Refusal::MALFORMED,
         Refusal::NOT_WRITTEN,
+        Refusal::RECORDS,
+        Refusal::NOT_LISTED,
     ];
     // 14 is the filing program's alone.
-    for (refusal, number) in all.into_iter().zip((1..=13).chain([15])) {
+    for (refusal, number) in all.into_iter().zip((1..=13).chain(15..=17)) {
         assert_eq!(refusal.number(), number);
         let error: Box<dyn Error + Send + Sync> = Box::new(refusal);
         let text = error.to_string();
@@ -531,6 +630,8 @@ fn the_types_go_between_threads() {
     fn both<T: Send + Sync>() {}
     both::<Plan>();
     both::<Store>();
+    both::<Ledger>();
+    both::<Record>();
     both::<Program>();
     both::<Refusal>();
     both::<ListingRefusal>();

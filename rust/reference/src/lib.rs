@@ -1,5 +1,5 @@
 //! A naive twin of the table library: document 01, with the requests of 02 that
-//! have landed (C-11, C-12, C-14 to C-17; C-13 changes no answer), in plain Rust.
+//! have landed (C-11, C-12, C-14 to C-18; C-13 changes no answer), in plain Rust.
 //!
 //! It is written from the papers alone and shares no line with the library.
 //! Tests and benchmarks compare the two, so every function here takes the
@@ -15,6 +15,8 @@
 //! | [`coefficients`] | store, β out | number | 1 2 3 4 5 6 |
 //! | [`settle`] | store, entry | [`Settled`] | 1 2 3 4 5 6 7 |
 //! | [`general()`] | work store | [`General`] | 1 2 3 4 5 |
+//! | [`file_recorded`] | store and work store, records and count, all in and out, entry, value | [`Filed`] | 1 2 3 4 5 6 16 7 8 9 |
+//! | [`withdraw`] | the same without a value | [`Withdrawn`] | 1 2 3 4 5 6 16 7 17 |
 //! | [`to_half`] | full store, store out | number | 1 2 3 4 5 6 |
 //! | [`to_full`] | store, full store out | number | 1 2 3 4 5 6 |
 //! | [`check_writing`] | β, step slice | number | 1 2 3 4 5 10 |
@@ -29,7 +31,8 @@
 //! Every call but the last takes the numbers `p s n m t`, then the plan's
 //! parts `radices weights tables d`, then its own parts. Any number may be
 //! lent, up to 2^64 - 1. A number answered is 0 where the call accepts. A
-//! refused call leaves every lent slice as it was. A store is in the new layout
+//! refused call leaves every lent slice as it was, but for a work store beside
+//! records, which from cause 6 on is left all zeros. A store is in the new layout
 //! of 02, C-16, and a full store in that of 01; [`halved`] and [`widened`] turn
 //! the bytes of one into those of the other without a test.
 
@@ -46,6 +49,7 @@ mod plan;
 mod program;
 pub mod random;
 mod readback;
+mod records;
 mod row;
 mod store;
 mod text;
@@ -58,6 +62,7 @@ pub use norm::worst_norm;
 pub use plan::{check_plan, Plan};
 pub use program::{check_writing, run, write, Ran};
 pub use readback::{read_listing, read_steps, Reread};
+pub use records::{file_recorded, withdraw, Record, Withdrawn};
 pub use row::row;
 pub use store::{coefficients, file, settle, test_store, Filed, Settled};
 pub use text::filing_program;

@@ -35,6 +35,8 @@ pub(crate) enum Part {
     FullStore,
     /// n digits.
     Digits,
+    /// As many entry records as there are entries (02, C-18).
+    Records,
 }
 
 impl Plan<'_> {
@@ -88,6 +90,7 @@ impl Plan<'_> {
             Part::Store => self.columns() * (self.columns() + 1) / 2 + self.columns(),
             Part::FullStore => self.columns() * (self.columns() + 1),
             Part::Digits => self.n,
+            Part::Records => self.entries(),
         }
     }
 }

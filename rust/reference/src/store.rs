@@ -7,7 +7,7 @@
 
 use crate::field::inverse;
 use crate::layout::{halved, widened};
-use crate::plan::{accept, Part};
+use crate::plan::{accept, Part, Plan};
 use crate::row::row_of;
 
 /// What a filing answers.
@@ -102,6 +102,20 @@ fn file_equation(p: usize, rows: &mut [Vec<usize>], mut equation: Vec<usize>) ->
     Filed::New(pivot)
 }
 
+/// Files an entry with its value in rows that are in reduced form.
+/// Causes 7 8 9.
+pub(crate) fn file_entry(plan: &Plan, rows: &mut [Vec<usize>], entry: u64, value: u64) -> Filed {
+    if entry >= plan.entries() as u64 {
+        return Filed::Refused(7);
+    }
+    if value >= plan.s as u64 {
+        return Filed::Refused(8);
+    }
+    let mut equation = row_of(plan, entry as usize);
+    equation.push(value as usize);
+    file_equation(plan.p, rows, equation)
+}
+
 /// Tests a store for reduced form; answers the number of a refusal, or 0.
 /// Causes 1 2 3 4 5 6.
 pub fn test_store(
@@ -154,15 +168,7 @@ pub fn file(
     if !is_reduced(plan.p, plan.columns(), &rows) {
         return Filed::Refused(6);
     }
-    if entry >= plan.entries() as u64 {
-        return Filed::Refused(7);
-    }
-    if value >= plan.s as u64 {
-        return Filed::Refused(8);
-    }
-    let mut equation = row_of(&plan, entry as usize);
-    equation.push(value as usize);
-    let answer = file_equation(plan.p, &mut rows, equation);
+    let answer = file_entry(&plan, &mut rows, entry, value);
     if let Filed::New(_) = answer {
         let full: Vec<u8> = rows.into_iter().flatten().map(|x| x as u8).collect();
         store.copy_from_slice(&halved(plan.columns(), &full));

@@ -5,7 +5,7 @@
 
 mod common;
 use common::{call, Owned, Random};
-use reference::{halved, widened, Filed};
+use reference::{halved, widened, Filed, Record, Withdrawn};
 
 /// A random store in the old layout, in reduced form: about every other row is
 /// led.
@@ -343,6 +343,21 @@ fn an_old_store_in_a_call() {
     assert_eq!(x.file(&mut full, 1, 1), Filed::Refused(4));
     assert_eq!(x.settle(&full, 1), reference::Settled::Refused(4));
     assert_eq!(x.general_in(&full), Err(4));
+    // As the store, and as the work store.
+    let mut records = [Record::default(); 4];
+    for store_is_full in [true, false] {
+        let (mut store, mut work) = (x.empty_store(), x.empty_store());
+        if store_is_full {
+            store.clone_from(&full);
+        } else {
+            work.clone_from(&full);
+        }
+        let (store, work, records, count) = (&mut store, &mut work, &mut records, &mut 0);
+        let filed = call!(file_recorded, x, store, work, records, count, 1, 1);
+        assert_eq!(filed, Filed::Refused(4));
+        let withdrawn = call!(withdraw, x, store, work, records, count, 1);
+        assert_eq!(withdrawn, Withdrawn::Refused(4));
+    }
     let mut beta = [9; 4];
     assert_eq!(call!(coefficients, x, &full, &mut beta), 4);
     assert_eq!((full, beta), (x.empty_full(), [9; 4]));

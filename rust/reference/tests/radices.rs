@@ -3,7 +3,7 @@
 
 mod common;
 use common::{call, Owned};
-use reference::{Filed, Ran, Settled};
+use reference::{Filed, Ran, Record, Settled, Withdrawn};
 
 /// That a plan without links and products and with n = 2 is answered so.
 #[track_caller]
@@ -133,9 +133,31 @@ fn cause_2_by_any_radix_comes_before_3_by_any_product() {
     }
 }
 
+/// What filing entry 1 with records answers, and withdrawing it from there. A
+/// refused call leaves what it is lent.
+fn with_records(plan: &Owned) -> (u32, u32) {
+    let product = |all: usize, &radix: &u8| all.saturating_mul(radix.into());
+    let entries = plan.radices.iter().fold(1, product).min(4_096);
+    let empty = (plan.empty_store(), vec![Record::default(); entries], 0);
+    let (mut store, mut records, mut count) = empty.clone();
+    let mut work = plan.empty_store();
+    let (kept, list, number) = (&mut store, &mut records, &mut count);
+    let filed = match call!(file_recorded, plan, kept, &mut work, list, number, 1, 1) {
+        Filed::Refused(number) => number,
+        _ => 0,
+    };
+    assert_eq!(filed == 0, *number == 1);
+    let withdrawn = match call!(withdraw, plan, kept, &mut work, list, number, 1) {
+        Withdrawn::Refused(number) => number,
+        Withdrawn::Value(value) => u32::from(value) - 1,
+    };
+    assert_eq!((store, records, count), empty);
+    (filed, withdrawn)
+}
+
 /// What each call answers, all its own parts being as the plan's numbers ask.
 /// A refused call leaves them as they were.
-fn every_call(plan: &Owned) -> [u32; 10] {
+fn every_call(plan: &Owned) -> [u32; 12] {
     let columns = plan.columns();
     let (mut row, mut store, mut beta) = (vec![9; columns], plan.empty_store(), vec![9; columns]);
     let good = vec![1; columns];
@@ -151,6 +173,7 @@ fn every_call(plan: &Owned) -> [u32; 10] {
         Settled::Refused(number) => number,
         _ => 0,
     };
+    let (filed_recorded, withdrawn) = with_records(plan);
     let written = call!(write, plan, &good, &mut slice).len();
     let checked = call!(check_writing, plan, &good, &lent);
     for (answer, untouched) in [
@@ -170,6 +193,8 @@ fn every_call(plan: &Owned) -> [u32; 10] {
         read_off,
         settled,
         plan.general_in(&plan.empty_store()).err().unwrap_or(0),
+        filed_recorded,
+        withdrawn,
         checked,
         plan.run(&[], &vec![0; plan.n as usize]).err().unwrap_or(0),
         plan.worst(&good).err().unwrap_or(0),
@@ -189,7 +214,7 @@ fn month_and_bit() -> Owned {
 #[test]
 fn every_call_refuses_radices_alike() {
     let good = month_and_bit();
-    assert_eq!(every_call(&good), [0; 10]);
+    assert_eq!(every_call(&good), [0; 12]);
     for (radices, number) in [
         (&[12, 1][..], 2),
         (&[0, 2], 2),
@@ -213,7 +238,7 @@ fn every_call_refuses_radices_alike() {
             radices: radices.to_vec(),
             ..good.clone()
         };
-        assert_eq!(every_call(&plan), [number; 10], "{radices:?}");
+        assert_eq!(every_call(&plan), [number; 12], "{radices:?}");
     }
 }
 
@@ -226,8 +251,8 @@ fn two_causes_and_the_first_put_right() {
         every_call(&plan)
     };
     // 1 before a bad radix.
-    assert_eq!(with(&|plan| (plan.p, plan.radices[1]) = (15, 1)), [1; 10]);
-    assert_eq!(with(&|plan| plan.radices[1] = 1), [2; 10]);
+    assert_eq!(with(&|plan| (plan.p, plan.radices[1]) = (15, 1)), [1; 12]);
+    assert_eq!(with(&|plan| plan.radices[1] = 1), [2; 12]);
     // A bad radix before 3 by t, 4 and 5.
     let spoil = |plan: &mut Owned| {
         plan.weights = vec![13; 3];
@@ -239,9 +264,9 @@ fn two_causes_and_the_first_put_right() {
             spoil(plan);
             bad_radix(plan);
         }),
-        [2; 10]
+        [2; 12]
     );
-    assert_eq!(with(&spoil), [3; 10]);
+    assert_eq!(with(&spoil), [3; 12]);
     // The product before 4 and 5.
     let length_and_value = |plan: &mut Owned| plan.weights = vec![13; 3];
     let product = |plan: &mut Owned| plan.radices = vec![13; 4];
@@ -250,9 +275,9 @@ fn two_causes_and_the_first_put_right() {
             length_and_value(plan);
             product(plan);
         }),
-        [3; 10]
+        [3; 12]
     );
-    assert_eq!(with(&length_and_value), [4; 10]);
+    assert_eq!(with(&length_and_value), [4; 12]);
     // The number of radices before 5.
     let value = |plan: &mut Owned| plan.d[2] = 13;
     for radices in [&[12][..], &[12, 2, 2], &[]] {
@@ -261,10 +286,10 @@ fn two_causes_and_the_first_put_right() {
                 value(plan);
                 plan.radices = radices.to_vec();
             }),
-            [4; 10]
+            [4; 12]
         );
     }
-    assert_eq!(with(&value), [5; 10]);
+    assert_eq!(with(&value), [5; 12]);
 }
 
 #[test]

@@ -1,5 +1,6 @@
 //! Document 01, "Turned down": each cause, their order, and that a refused
-//! call leaves every lent slice as it was.
+//! call leaves every lent slice as it was. Of the calls with records in
+//! tests/records.rs.
 
 mod common;
 use common::{call, Owned};

@@ -13,9 +13,9 @@ use Rattle.plan.specs.Parts.{Given, lend, given, storeSize}
 use Rattle.plan.specs.declared.numbers.Plan.{Plan}
 use Rattle.plan.specs.declared.admission.Own.the-variants.{Store}
 use Rattle.plan.proofs.Admitting.{Admitted, admission, turned-away}
-use Rattle.store.proofs.StoreCalls.{refused-call}
+use Rattle.store.proofs.StoreCalls.{cleared-work, refused-call}
 use Rattle.general.specs.Suits.{generalAnswer, generalWork}
-use Rattle.general.proofs.Answers.{cleared-work, suited-call}
+use Rattle.general.proofs.Answers.{suited-call}
 use Rattle.general.proofs.general.Statement.{statement}
 use Rattle.general.proofs.general.Tie as tie
 

@@ -15,6 +15,7 @@ mod general;
 mod moving;
 mod plans;
 mod reading;
+mod recorded;
 mod settling;
 mod timing;
 
@@ -120,6 +121,13 @@ fn main() {
     for line in [settling::free_line, settling::forced_line] {
         for (case, store) in cases.iter().zip(&stores) {
             println!("{}", line(case, store));
+        }
+    }
+
+    println!("\n## Records\n\n{}", recorded::INTRODUCTION);
+    for line in [recorded::file_line, recorded::withdraw_line] {
+        for case in &cases {
+            println!("{}", line(case));
         }
     }
 

@@ -4,7 +4,9 @@ use super::layout::{Layout, LAYOUTS};
 use super::listings;
 use super::plans::{product, Owned};
 use super::random::Random;
+use super::recorded::{any_record, Recorded};
 use super::twins::Lot;
+use celerycrag::Record;
 
 /// Numbers at and beside the limits, and where narrower types end.
 pub const EDGES: [usize; 45] = [
@@ -68,7 +70,7 @@ fn another(random: &mut Random, right: usize) -> usize {
 
 /// Makes one thing wrong, or at least likely to be.
 pub fn fault(random: &mut Random, lot: &mut Lot) {
-    match random.below(16) {
+    match random.below(19) {
         0 => number(random, &mut lot.plan),
         1 => wrap(random, &mut lot.plan),
         2 | 3 => length(random, lot),
@@ -79,6 +81,7 @@ pub fn fault(random: &mut Random, lot: &mut Lot) {
         10 => bad_step(random, lot),
         11 => bad_digit(random, lot),
         12 | 13 => listings::spoil(random, &mut lot.text),
+        14..=16 => bad_record(random, &lot.plan, &mut lot.recorded),
         _ => radices(random, &mut lot.plan),
     }
 }
@@ -141,7 +144,7 @@ fn radices(random: &mut Random, plan: &mut Owned) {
 /// A part in another length, the radices apart. The step slices belong to
 /// causes 10 and 11.
 fn length(random: &mut Random, lot: &mut Lot) {
-    match random.below(12) {
+    match random.below(16) {
         0 => relength(random, &mut lot.plan.weights),
         1 => relength(random, &mut lot.plan.tables),
         2 => relength(random, &mut lot.plan.d),
@@ -153,6 +156,10 @@ fn length(random: &mut Random, lot: &mut Lot) {
         8 => relength(random, &mut lot.full),
         9 => lot.store.resize(lot.full.len(), 0),
         10 => lot.full.resize(lot.store.len(), 0),
+        11 => relength(random, &mut lot.recorded.store),
+        12 => relength(random, &mut lot.recorded.work),
+        13 => relength(random, &mut lot.recorded.records),
+        14 => lot.recorded.count = another(random, lot.recorded.records.len()),
         _ => relength(random, &mut lot.steps),
     }
 }
@@ -184,14 +191,15 @@ fn large_byte(random: &mut Random, lot: &mut Lot) {
     }
 }
 
-/// Damages the store, or the full one, in one of the ways that reduced form
-/// forbids; where it has no row for it, and in some ways anyway, it may still be
-/// reduced.
+/// Damages the store, the one with records, or the full one, in one of the ways
+/// that reduced form forbids; where it has no row for it, and in some ways anyway,
+/// it may still be reduced.
 fn damage(random: &mut Random, lot: &mut Lot) {
     let p = lot.plan.p;
     let columns = lot.plan.columns_if_small();
     let layout = random.pick(&LAYOUTS);
     let store = match layout {
+        Layout::Half if random.one_in(2) => &mut lot.recorded.store,
         Layout::Half => &mut lot.store,
         Layout::Full => &mut lot.full,
     };
@@ -237,6 +245,57 @@ fn damage(random: &mut Random, lot: &mut Lot) {
         row[..layout.first(q)].fill(0);
     }
     *store = layout.store(&rows);
+}
+
+/// A list that is likely not that of its store, or names no entries and values.
+fn bad_record(random: &mut Random, plan: &Owned, recorded: &mut Recorded) {
+    let listed = recorded.count.min(recorded.records.len());
+    if listed == 0 {
+        // What is behind the count is not tested; with a count of 1 it is.
+        recorded.count = random.below(2);
+        return;
+    }
+    let (place, other) = (random.below(listed), random.below(listed));
+    let entries = product(&plan.radices);
+    let Record { entry, value } = recorded.records[place];
+    let far = 1 << random.within(8, 15);
+    let changed = match random.below(8) {
+        // An entry twice, where the two are not one.
+        0 => recorded.records[other],
+        // No entry, and one that a byte would take for the right one.
+        1 => Record {
+            entry: another(random, entries) as u16,
+            value,
+        },
+        2 => Record {
+            entry: entry ^ far,
+            value,
+        },
+        // No value, and the same.
+        3 => Record {
+            entry,
+            value: another(random, plan.s) as u16,
+        },
+        4 => Record {
+            entry,
+            value: value ^ far,
+        },
+        // Another value, and another entry.
+        5 => Record {
+            entry,
+            value: value.wrapping_add(1),
+        },
+        6 => Record {
+            entry: random.below(entries.clamp(1, 4_096)) as u16,
+            value,
+        },
+        _ => any_record(random),
+    };
+    match random.below(4) {
+        // The list is cut, or has one more.
+        0 => recorded.count = random.below(listed + 2),
+        _ => recorded.records[place] = changed,
+    }
 }
 
 /// A step list with one fault, which need not be one for every step.

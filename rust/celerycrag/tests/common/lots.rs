@@ -1,10 +1,11 @@
-//! Random lots for the fifteen calls, with nothing wrong and of noise, and random
-//! entries with values.
+//! Random lots for the seventeen calls, with nothing wrong and of noise, and
+//! random entries with values.
 
 use super::faults::EDGES;
 use super::listings;
 use super::plans::{outline, reduced, residues, Owned};
 use super::random::Random;
+use super::recorded::{any_record, Recorded};
 use super::twins::{listing, Lot};
 use celerycrag::raw;
 
@@ -15,11 +16,19 @@ pub fn lot(random: &mut Random, most_columns: usize) -> Lot {
 }
 
 /// A lot with nothing wrong, of this plan with other residues; but half of the
-/// lists of steps are no program of it, which only reading back refuses.
+/// lists of steps are no program of it, which only reading back refuses, and
+/// the entry need not be listed, which only withdrawing refuses.
 pub fn lot_of(random: &mut Random, plan: Owned) -> Lot {
     let plan = plan.drawn(random);
     let store = some_store(random, &plan);
     let full = some_store(random, &plan);
+    let recorded = some_list(random, &plan);
+    // Half of the time an entry that can be withdrawn.
+    let entry = match recorded.listed() {
+        [] => random.below(plan.entries()),
+        _ if random.one_in(2) => random.below(plan.entries()),
+        listed => random.pick(listed).entry.into(),
+    };
     let beta = residues(random, plan.columns(), plan.p);
     let slack = random.pick(&[0, 0, 1, 4, 50]);
     let room: Vec<u16> = (0..4 * plan.step_count() + slack)
@@ -33,10 +42,11 @@ pub fn lot_of(random: &mut Random, plan: Owned) -> Lot {
     };
     let kept = residues(random, plan.columns(), plan.p);
     Lot {
-        entry: random.below(plan.entries()),
+        entry,
         value: random.below(plan.s),
         row: random.bytes(plan.columns(), 256),
         store,
+        recorded,
         full: plan.widened(&full),
         beta,
         room,
@@ -57,6 +67,21 @@ fn some_store(random: &mut Random, plan: &Owned) -> Vec<u8> {
             reduced(random, plan, one_row_in)
         }
     }
+}
+
+/// A store with its list: of no entry, a few, or as many as the plan has. Many
+/// take long in the reference where there are many columns.
+fn some_list(random: &mut Random, plan: &Owned) -> Recorded {
+    let few = if plan.columns() > 100 { 3 } else { 8 };
+    let entries: Vec<usize> = match random.below(8) {
+        0 => vec![],
+        1 if plan.entries() <= 4 * few => (0..plan.entries()).collect(),
+        _ => (0..random.below(few + 1))
+            .map(|_| random.below(plan.entries()))
+            .collect(),
+    };
+    let list = pairs(random, plan, entries);
+    Recorded::filed(random, plan, list)
 }
 
 /// The store after a few filings.
@@ -141,6 +166,10 @@ pub fn noise(random: &mut Random) -> Lot {
         lot.digits = any(random, 4);
         lot.store = any(random, 90);
         lot.full = any(random, 160);
+        lot.recorded.store = any(random, 90);
+        lot.recorded.work = any(random, 90);
+        let count = random.below(20);
+        lot.recorded.records = (0..count).map(|_| any_record(random)).collect();
     }
     let numbers = [
         &mut lot.plan.p,
@@ -150,6 +179,7 @@ pub fn noise(random: &mut Random) -> Lot {
         &mut lot.plan.t,
         &mut lot.entry,
         &mut lot.value,
+        &mut lot.recorded.count,
     ];
     for number in numbers {
         match random.below(6) {

@@ -4,11 +4,13 @@
 use std::collections::BTreeMap;
 
 /// The calls with the causes that each can meet.
-pub const CAUSES: [(&str, &[u8]); 15] = [
+pub const CAUSES: [(&str, &[u8]); 17] = [
     ("check", &[1, 2, 3, 4, 5]),
     ("row", &[1, 2, 3, 4, 5, 7]),
     ("test", &[1, 2, 3, 4, 5, 6]),
     ("file", &[1, 2, 3, 4, 5, 6, 7, 8, 9]),
+    ("file_recorded", &[1, 2, 3, 4, 5, 6, 16, 7, 8, 9]),
+    ("withdraw", &[1, 2, 3, 4, 5, 6, 16, 7, 17]),
     ("coefficients", &[1, 2, 3, 4, 5, 6]),
     ("settle", &[1, 2, 3, 4, 5, 6, 7]),
     ("general", &[1, 2, 3, 4, 5]),

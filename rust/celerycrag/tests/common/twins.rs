@@ -3,27 +3,31 @@
 //! has to leave everything as it was, and no call may write beside its slice.
 
 use super::plans::Owned;
+use super::recorded::Recorded;
 use super::tally::Tally;
 use celerycrag::raw;
 use reference::{Filed, General, Ran, Reread, Settled};
 use std::fmt::Debug;
 
 /// What a single number that is lent holds before the call; no call answers it.
-const OLD: usize = 0x5EED_5EED_5EED_5EED;
+pub const OLD: usize = 0x5EED_5EED_5EED_5EED;
 /// The same of a byte that is at most p, and so at most 251.
 const OLD_BYTE: u8 = 0xFE;
 /// The elements beside a slice that is lent to be written.
 const MARGIN: usize = 37;
 
-/// Everything that the fifteen calls take.
+/// Everything that the seventeen calls take.
 #[derive(Clone, Debug)]
 pub struct Lot {
     pub plan: Owned,
     pub entry: usize,
     pub value: usize,
     pub row: Vec<u8>,
-    /// What the calls on a store take, the target of one move, and the work store.
+    /// What the calls on a store take, the target of one move, and the work
+    /// store of the question whether a plan is general.
     pub store: Vec<u8>,
+    /// What the calls with records take: a store of their own, with its list.
+    pub recorded: Recorded,
     /// A store in the full layout: what that move takes, and the target of the
     /// other.
     pub full: Vec<u8>,
@@ -48,9 +52,11 @@ macro_rules! by_reference {
     }};
 }
 
+pub(crate) use by_reference;
+
 /// Lends a copy of the slice with a margin on each side; the copy afterwards,
 /// and what the call answered.
-fn fenced<T, A>(slice: &[T], mark: T, call: impl FnOnce(&mut [T]) -> A) -> (Vec<T>, A)
+pub fn fenced<T, A>(slice: &[T], mark: T, call: impl FnOnce(&mut [T]) -> A) -> (Vec<T>, A)
 where
     T: Copy + PartialEq + Debug,
 {
@@ -64,7 +70,7 @@ where
 }
 
 /// What both answered, and that the library answered the same.
-fn agreed(call: &'static str, library: u8, reference: u32, tally: &mut Tally) -> u8 {
+pub fn agreed(call: &'static str, library: u8, reference: u32, tally: &mut Tally) -> u8 {
     assert_eq!(library as u32, reference, "{call}: library, then reference");
     tally.add(call, library);
     library
@@ -393,13 +399,15 @@ pub fn listing(plan: &Owned, beta: &[u8]) -> Vec<u8> {
     listing.expect("a plan and its β").into_bytes()
 }
 
-/// All fifteen calls on one lot, which stays as it is.
+/// All seventeen calls on one lot, which stays as it is.
 pub fn all(lot: &Lot, tally: &mut Tally) {
     let plan = &lot.plan;
     check(plan, tally);
     row(plan, lot.entry, &mut lot.row.clone(), tally);
     test(plan, &lot.store, tally);
     let _ = file(plan, &mut lot.store.clone(), lot.entry, lot.value, tally);
+    let _ = lot.recorded.clone().file(plan, lot.entry, lot.value, tally);
+    let _ = lot.recorded.clone().withdraw(plan, lot.entry, tally);
     coefficients(plan, &lot.store, &mut lot.beta.clone(), tally);
     let _ = settle(plan, &lot.store, lot.entry, tally);
     let _ = general(plan, &mut lot.store.clone(), tally);

@@ -3,10 +3,11 @@ use mathlib.Core.Path.{_≡_, sym, ap, _∙_}
 use mathlib.Core.Bool.{Bool}
 use native.Mathlib.Nat.{pos-of-ne-zero}
 use Rattle.plan.specs.Causes.{first}
-use Rattle.plan.specs.Numbers.{answerOf, checked}
+use Rattle.plan.specs.Numbers.{radicesFit, answerOf, checked}
 use Rattle.plan.specs.Parts.{lend, ownFits, partCauses}
+use Rattle.plan.specs.declared.numbers.Plan.{Plan}
 use Rattle.plan.specs.declared.numbers.Checked.the-variants.{Accepted, Refused}
-use Rattle.plan.proofs.Limits.{accepted-within}
+use Rattle.plan.proofs.Limits.{radices-of, accepted-plan, accepted-within}
 use Rattle.plan.proofs.Admitting.{admit-numbers, admit-parts, admit-passed}
 use borrow.Author.Needs.{needs}
 use Rattle.plan.proofs.admission.admit.Statement.{statement}
@@ -22,7 +23,7 @@ accepted c = sym (c .before .before .new .ensures) ∙ ap answerOf (c .plan .giv
 parts : (c : tie.After-part-refusal) →
     let a = start (c .before .before .before .before .before) .args in
     let Q = c .before .before .before .plan .given .0 .0 in
-    c .part-refusal .result ≡ first (partCauses (lend Q (a .radices .now) (a .weights .now) (a .tables .now) (a .d .now)) (ownFits (a .own) Q))
+    c .part-refusal .result ≡ first (partCauses (lend Q (a .radices .now) (a .weights .now) (a .tables .now) (a .d .now)) (ownFits (a .own) Q (a .radices .now)))
 parts c =
     let a = start (c .before .before .before .before .before) .args in
     let Q = c .before .before .before .plan .given .0 .0 in
@@ -39,7 +40,10 @@ enum-known-plan : tie.Need-enum-known-plan
 enum-known-plan c = search needs
 
 own-fits-requires : tie.Need-own-fits-requires
-own-fits-requires c κs = accepted-within _ _ _ _ _ _ (accepted (c .before))
+own-fits-requires c κs =
+    let q = accepted-plan _ _ _ _ _ _ (accepted (c .before)) in
+    let r = radices-of _ _ _ _ _ _ (q .0) in
+    (accepted-within _ _ _ _ _ _ (accepted (c .before)), (ap (λ (P : Plan). radicesFit (P .p) (start (c .before .before .before) .args .radices .now)) (sym (q .1)) ∙ r .0, r .1))
 
 part-refusal-requires : tie.Need-part-refusal-requires
 part-refusal-requires c κs = accepted-within _ _ _ _ _ _ (accepted (c .before .before))

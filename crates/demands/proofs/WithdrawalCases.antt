@@ -1,0 +1,95 @@
+-- 02, C-18: facts about the calls with records. Each computes. X is the XOR plan of `Cases`. Assumes nothing.
+use mathlib.Core.Path.{_≡_, refl}
+use mathlib.Core.List.{List, [], _∷_, map}
+use Prim.Native.Nat.{ℕ}
+use lib.ListN.{replicate}
+use Rattle.lists.specs.Places.{sum, tab, every, joined, same}
+use Rattle.field.specs.Primes.{isPrime, oddPrime}
+use Rattle.field.specs.Residues.{inverse}
+use Rattle.plan.specs.Causes.{gives, refuses}
+use Rattle.plan.specs.Numbers.{product, badRadix, radicesFit, outOfRange}
+use Rattle.plan.specs.Parts.{lengthsFit, valuesFit, storeSize, callCauses}
+use Rattle.plan.specs.Rows.{digit, chain, values, weighted, rowPlace, row}
+use Rattle.store.specs.declared.elimination.Filed.the-variants.{New, Implied, Refused}
+use Rattle.store.specs.Elimination.{isZeroRow, isPivot, isReduced, residual, lead, normal, inserted, outcome, after, rowStart, cells, flat}
+use Rattle.store.specs.Calls.{answerOf, filed, coefficients}
+use Rattle.records.specs.Listed.{none, recordOf}
+use Rattle.ledger.specs.Lists.{has, distinct, placeOf, valueOf, without, filedOn, accepts, sound}
+use Rattle.ledger.specs.Calls.{Filled, filled, recordAnswer, recordAfter, withdrawAnswer, withdrawAfter}
+use Rattle.demands.specs.Withdrawals.{Act, file, withdraw, ours, filledOf, keptWith, start}
+use Rattle.demands.proofs.Cases.{X}
+
+-- a work store: its bytes are not tested
+abbrev pub work : List ℕ
+work = replicate 14 7
+
+-- what is left after some calls, from a count of 0 on
+abbrev pub upon : List Act → Filled
+upon acts = filledOf X (start X (replicate 4 none)) (map (ours work) acts)
+
+-- after (1,1), (2,1), (3,0) and (0,0); and after entry 1 is withdrawn
+abbrev pub full : Filled
+full = filled (1 ∷ 0 ∷ 0 ∷ 2 ∷ 0 ∷ 1 ∷ 0 ∷ 1 ∷ 1 ∷ 1 ∷ 1 ∷ 1 ∷ 0 ∷ 0 ∷ []) (recordOf 1 1 ∷ recordOf 2 1 ∷ recordOf 3 0 ∷ recordOf 0 0 ∷ []) 4
+
+abbrev pub less : Filled
+less = filled (1 ∷ 0 ∷ 1 ∷ 0 ∷ 1 ∷ 1 ∷ 1 ∷ 2 ∷ 2 ∷ 0 ∷ 0 ∷ 0 ∷ 0 ∷ 0 ∷ []) (recordOf 2 1 ∷ recordOf 3 0 ∷ recordOf 0 0 ∷ none ∷ []) 3
+
+pub record Withdrawn : Type 0 where
+  -- filing with records answers as filing does, and the entries join the list
+  pub file-1 : recordAnswer X (upon []) work 1 1 ≡ answerOf (New 1)
+  pub file-2 : recordAnswer X (upon (file 1 1 ∷ [])) work 2 1 ≡ answerOf (New 0)
+  pub file-3 : recordAnswer X (upon (file 1 1 ∷ file 2 1 ∷ [])) work 3 0 ≡ answerOf (New 2)
+  pub file-4 : recordAnswer X (upon (file 1 1 ∷ file 2 1 ∷ file 3 0 ∷ [])) work 0 0 ≡ answerOf Implied
+  pub filed-4 : upon (file 1 1 ∷ file 2 1 ∷ file 3 0 ∷ file 0 0 ∷ []) ≡ full
+  -- a listed entry with its value is Implied and joins nothing; with another value it is 9
+  pub again : recordAnswer X full work 1 1 ≡ answerOf Implied
+  pub again-same : recordAfter X full work 1 1 ≡ full
+  pub other-value : recordAnswer X full work 1 0 ≡ answerOf (Refused 9)
+  -- "It answers the value withdrawn"; "closes the gap, sets the freed last record to zeros"
+  pub value : withdrawAnswer X full work 1 ≡ gives (1 ∷ [])
+  pub gone : withdrawAfter X full work 1 ≡ less
+  -- the entries kept "and not withdrawn since"
+  pub kept : keptWith X (upon []) [] (ours work (file 1 1) ∷ ours work (file 2 1) ∷ ours work (withdraw 1) ∷ []) ≡ (2, 1) ∷ []
+  -- then the entry takes the other value
+  pub corrected : recordAnswer X less work 1 0 ≡ answerOf (New 2)
+  pub corrected-β : coefficients 4 (recordAfter X less work 1 0 .store) ≡ 2 ∷ 0 ∷ 2 ∷ 0 ∷ []
+  -- 17, "when the withdrawn entry isn't listed"; 7 comes before it
+  pub absent : withdrawAnswer X less work 1 ≡ refuses 17
+  pub far : withdrawAnswer X less work 4 ≡ refuses 7
+  -- 16: an entry twice, a pair out of range, a contradiction, the store of another list; it comes before 7
+  pub twice : recordAnswer X (filled (less .store) (recordOf 2 1 ∷ recordOf 3 0 ∷ recordOf 2 1 ∷ none ∷ []) 3) work 1 0 ≡ refuses 16
+  pub ranged : withdrawAnswer X (filled (less .store) (recordOf 2 1 ∷ recordOf 3 0 ∷ recordOf 4 0 ∷ none ∷ []) 3) work 2 ≡ refuses 16
+  pub clash : withdrawAnswer X (filled (less .store) (recordOf 2 1 ∷ recordOf 3 0 ∷ recordOf 0 1 ∷ none ∷ []) 3) work 2 ≡ refuses 16
+  pub another : withdrawAnswer X (filled (full .store) (less .records) 3) work 4 ≡ refuses 16
+  -- "A list of records of another length, or a count above it, is cause 4"; a work store of another length is too
+  pub longer : recordAnswer X (filled (full .store) (replicate 5 none) 4) work 1 1 ≡ refuses 4
+  pub above : recordAnswer X (filled (full .store) (full .records) 5) work 1 1 ≡ refuses 4
+  pub work-short : withdrawAnswer X full (replicate 13 7) 1 ≡ refuses 4
+
+pub withdrawn : Withdrawn
+unfolding recordAnswer recordAfter withdrawAnswer withdrawAfter filledOf keptWith has distinct placeOf valueOf without filedOn accepts sound same filed coefficients callCauses storeSize rowStart cells product badRadix radicesFit outOfRange oddPrime isPrime every lengthsFit valuesFit isZeroRow isPivot isReduced residual lead normal inserted outcome after flat joined tab sum row rowPlace weighted values chain digit inverse
+withdrawn =
+    record {
+      file-1 = refl;
+      file-2 = refl;
+      file-3 = refl;
+      file-4 = refl;
+      filed-4 = refl;
+      again = refl;
+      again-same = refl;
+      other-value = refl;
+      value = refl;
+      gone = refl;
+      kept = refl;
+      corrected = refl;
+      corrected-β = refl;
+      absent = refl;
+      far = refl;
+      twice = refl;
+      ranged = refl;
+      clash = refl;
+      another = refl;
+      longer = refl;
+      above = refl;
+      work-short = refl;
+    }

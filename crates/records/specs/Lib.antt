@@ -1,0 +1,2 @@
+-- Lists of entry records.
+pub mod Listed
