@@ -308,7 +308,8 @@ uint8_t celery_file(CELERY_PLAN, uint8_t *store, size_t store_len,
  *          on work, for each entry what celery_file costs without celery_test: up
  *          to a few milliseconds for some hundred entries, and up to a few tenths
  *          of a second for 4,096 with C = 1,024. A host that fills a large table
- *          may file it with celery_file, and write the records itself.
+ *          may file it with celery_file, and write the records itself. About
+ *          27,000 bytes of stack.
  */
 uint8_t celery_file_recorded(CELERY_PLAN, uint8_t *store, size_t store_len,
                              uint8_t *work, size_t work_len,
@@ -328,9 +329,9 @@ uint8_t celery_file_recorded(CELERY_PLAN, uint8_t *store, size_t store_len,
  *          entry to the end of the list, and *count, which is then one less. All
  *          of work: it is all zeros after every call that none of the causes 1 to
  *          5 refuses, also where another does.
- * Cost:    celery_test, and the list is filed twice on work, once to test it, and
- *          once without the entry to make the store: about twice what
- *          celery_file_recorded costs.
+ * Cost:    celery_test, and the list is filed twice: on work, to test it, and
+ *          without the entry on the store, once that is cleared. About twice what
+ *          celery_file_recorded costs, and 32,000 bytes of stack.
  */
 uint8_t celery_withdraw(CELERY_PLAN, uint8_t *store, size_t store_len,
                         uint8_t *work, size_t work_len,

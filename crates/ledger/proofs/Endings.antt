@@ -7,19 +7,19 @@
 --     refused-filing, kept-filing          what `file_listed` says, of a refusal and of an entry that is kept
 --     refused-withdrawal, made-withdrawal        what `withdraw_listed` says, of a refusal and of a withdrawal
 -- Assumes nothing.
-use mathlib.Core.Path.{_≡_, refl, sym, ap, ap₂, _∙_}
-use mathlib.Core.Bool.{Bool, true, not, _&&_}
-use mathlib.Core.List.{List, [], _∷_}
+use mathlib.Core.Path.{_≡_, refl, sym, ap, _∙_}
+use mathlib.Core.Bool.{true, _&&_}
+use mathlib.Core.List.{List}
 use Prim.Native.Nat.{ℕ, zero, suc, _-_, _≤_, _<_}
 use native.Mathlib.Omega.{arith}
-use lib.Dec.{eqb, ltb, leb}
+use lib.Dec.{eqb, leb}
 use borrow.Author.Tests.{eqb-true, leb-true, ltb-true, not-false}
 use Rattle.lists.proofs.Tests.{both-true}
 use Rattle.plan.specs.declared.numbers.Plan.{Plan}
 use Rattle.plan.specs.declared.admission.Own.the-variants.{StoresAndRecords}
 use Rattle.plan.specs.Causes.{first, result, gives, answer}
 use Rattle.plan.specs.Numbers.{columns, product}
-use Rattle.plan.specs.Parts.{Given, storeSize, ownFits, callCauses}
+use Rattle.plan.specs.Parts.{Given, storeSize, ownFits}
 use Rattle.plan.proofs.Refusals.{none-met, answer-gives, result-refused}
 use Rattle.store.specs.Calls.{emptyStore, outcomeOf, valuesOf, columnOf, filed}
 use Rattle.ledger.specs.Lists.{Pair, has, placeOf, valueOf, without, filedOn}

@@ -1,8 +1,8 @@
--- Lists of pairs as the loops go through them, and what the functions compute.
+-- Laws of lists of pairs and of records; lists as the loops read them and file them; and what the calls answer and leave.
 pub mod EntryLists
-pub mod Unpacked
-pub mod Told
 pub mod Rests
 pub mod Orders
 pub mod Soundness
 pub mod Endings
+pub mod Unpacked
+pub mod Told

@@ -7,11 +7,11 @@
 --     none-skipped                 of a list in range nothing is left out by an entry that is not in range
 --     accepts-exactly              no pair is refused exactly when each is in range and none is a contradiction
 -- Assumes nothing.
-use mathlib.Core.Path.{_≡_, refl, sym, ap, ap₂, subst, _∙_}
+use mathlib.Core.Path.{_≡_, refl, sym, ap, _∙_}
 use mathlib.Core.Bool.{Bool, true, false, not, _&&_, and-false, and-true}
 use mathlib.Core.List.{List, [], _∷_}
 use mathlib.Core.Logic.{_≢_}
-use Prim.Native.Nat.{ℕ, _+_, _*_, _≤_, _<_}
+use Prim.Native.Nat.{ℕ, _+_, _*_, _<_}
 use native.Mathlib.Decide.{ℕ-discrete}
 use native.Mathlib.Omega.{arith}
 use lib.Dec.{eqb, ltb}
@@ -26,7 +26,7 @@ use Rattle.store.specs.Filings.{isContradiction}
 use Rattle.store.specs.Stages.{Ready}
 use Rattle.store.specs.Calls.{emptyStore, outcomeOf, answered, filed}
 use Rattle.store.proofs.Readiness.{empty-ready, filed-ready}
-use Rattle.ledger.specs.Lists.{Pair, without, filedOn, pairCauses, accepts}
+use Rattle.ledger.specs.Lists.{Pair, without, filedOn, accepts}
 use Rattle.ledger.specs.Stages.{pairsFrom, ranged, consistent, isRefused}
 
 pub one-pair : (k : ℕ) (list : List ℕ) → pairsFrom 1 k list ≡ (at list (2 * k), at list (2 * k + 1)) ∷ []

@@ -4,17 +4,16 @@
 --     sound-ranged    a sound list is in range
 --     place-below     an entry is listed exactly when its place is in the list
 --     not-listed, is-listed      as the code tells it: its place is the count, or is not
---     pairs-length    how many pairs there are
+--     read-length    how many pairs there are
 --     value-at        the value of a listed entry stands at its place
 -- Assumes nothing.
 use mathlib.Core.Path.{_≡_, refl, sym, ap, _∙_}
-use mathlib.Core.Bool.{Bool, true, false, not, _&&_, true≢false, false≢true}
+use mathlib.Core.Bool.{Bool, true, false, _&&_, true≢false, false≢true}
 use mathlib.Core.List.{List, [], _∷_}
 use mathlib.Core.Logic.{_≢_}
-use Prim.Native.Nat.{ℕ, zero, suc, _+_, _*_, _≤_, _<_}
+use Prim.Native.Nat.{ℕ, zero, suc, _+_, _*_, _<_}
 use native.Mathlib.Decide.{ℕ-discrete}
 use native.Mathlib.Omega.{arith}
-use lib.Dec.{eqb}
 use lib.ListN.{length}
 use borrow.Author.Tests.{eq-eqb, ne-eqb}
 use Rattle.lists.specs.Places.{at, same}
@@ -35,7 +34,7 @@ module _ (G : Given) (S : List ℕ) (l : List Pair) where
 
   pub unsound : (inRange && distinct l) ≡ false → false ≡ sound G S l
   unfolding sound
-  unsound h = rw (accepts-exactly G E l) (by inRange (distinct l) (consistent G E l) (same S (filedOn G E l)) h)
+  unsound h = rw (accepts-exactly G E l) (by inRange (distinct l) (consistent G E l) _ h)
     where
       by : (r d c m : Bool) → (r && d) ≡ false → false ≡ (d && ((r && c) && m))
       by true true c m h = absurd (true≢false h)
@@ -82,10 +81,10 @@ is-listed l i count all d = by (has l i) (place-below l i .1)
     by true h = refl
     by false h = absurd (d (h refl ∙ all))
 
-pub pairs-length : (k i : ℕ) (list : List ℕ) → length (pairsFrom k i list) ≡ k
+pub read-length : (k i : ℕ) (list : List ℕ) → length (pairsFrom k i list) ≡ k
 unfolding pairsFrom
-pairs-length zero i list = refl
-pairs-length (suc k) i list = ap suc (pairs-length k (i + 1) list)
+read-length zero i list = refl
+read-length (suc k) i list = ap suc (read-length k (i + 1) list)
 
 value-from : (k j : ℕ) (list : List ℕ) (i : ℕ) → has (pairsFrom k j list) i ≡ true
     → at list (2 * (j + placeOf (pairsFrom k j list) i) + 1) ≡ valueOf (pairsFrom k j list) i

@@ -5,29 +5,30 @@
 --                                  the value withdrawn
 -- Assumes nothing.
 use mathlib.Core.Path.{_≡_, refl, sym, ap, ap₂, subst, _∙_}
-use mathlib.Core.Bool.{Bool, true, false, cond, _&&_, _||_}
+use mathlib.Core.Bool.{Bool, true, false, cond}
 use mathlib.Core.List.{List, [], _∷_}
 use Prim.Native.Nat.{ℕ, zero, suc, _+_, _-_, _≤_, _<_}
 use native.Mathlib.Omega.{arith}
-use lib.Dec.{T as Holds, eqb, leb}
-use lib.ListN.{length, take, set, length-map, length-take}
-use borrow.Author.Tests.{eqb-true, leb-true, not-false, lt-ltb, le-leb}
-use Rattle.lists.proofs.Tests.{both-true}
+use lib.ListN.{length, set}
 use Rattle.plan.specs.Causes.{first, result, answer, numberOf}
-use Rattle.plan.specs.Numbers.{columns, product, numbersOf, answerOf}
-use Rattle.plan.specs.Parts.{Given, storeSize, callCauses, admitted}
+use Rattle.plan.specs.Numbers.{columns, numbersOf, answerOf}
+use Rattle.plan.specs.Parts.{Given, callCauses, admitted}
 use Rattle.plan.specs.declared.admission.Own.{Own}
 use Rattle.plan.proofs.Admitting.{unrefused, turned-away}
-use Rattle.plan.proofs.Refusals.{none-met, number-answer}
+use Rattle.plan.proofs.Refusals.{number-answer}
 use Rattle.store.specs.Calls.{emptyStore, outcomeOf, valuesOf, columnOf, filed}
 use Rattle.records.specs.declared.Record.{Record}
-use Rattle.records.specs.Listed.{recordOf, removed, removedAt, unpacked}
+use Rattle.records.specs.Listed.{recordOf, removedAt, unpacked}
 use Rattle.ledger.specs.Lists.{Pair, has, placeOf, valueOf, without, filedOn}
-use Rattle.ledger.specs.Calls.{Filled, filled, pairOf, listed, recordOwn, withdrawOwn, ownOf, withdrawCauses, joined, withdrawn, recordAnswer, recordAfter, withdrawAnswer, withdrawAfter, workAfter}
+use Rattle.ledger.specs.Calls.{Filled, filled, listed, recordOwn, withdrawOwn, ownOf, withdrawCauses, joined, withdrawn, recordAnswer, recordAfter, withdrawAnswer, withdrawAfter, workAfter}
 use Rattle.ledger.specs.Stages.{pairs, countAfter, placeAfter, placed, takenBy, recordRefusal, withdrawRefusal, FiledListed, WithdrawnListed}
 use Rattle.ledger.specs.declared.calls.Placed.{Placed}
 use Rattle.ledger.specs.declared.calls.Taken.{Taken}
+use Rattle.records.proofs.Removals.{set-past, removed-there, removed-above}
+use Rattle.ledger.proofs.EntryLists.{pairs-length}
 use Rattle.ledger.proofs.Unpacked.{unpacked-listed}
+use Rattle.ledger.proofs.Soundness.{place-below}
+use Rattle.ledger.proofs.Endings.{parts-of, found}
 
 -- a call that one of causes 1 to 5 refuses is refused so whatever its own causes are
 away : (G : Given) (own : Own) (k : ℕ) → first (callCauses G own (λ _. [])) ≡ suc k → (rest : Given → List (ℕ × Bool))
@@ -35,49 +36,14 @@ away : (G : Given) (own : Own) (k : ℕ) → first (callCauses G own (λ _. []))
 unfolding admitted answerOf
 away G own k e rest = sym (turned-away G own {k = suc k} (ap (λ (j : ℕ). answer j (numbersOf (G .numbers))) e) rest .0)
 
--- a record that is put past the end, or where the list ends; and one that is removed, or none
-set-past : (l : List Record) (i : ℕ) (h : Record) → length l ≤ i → set l i h ≡ l
-set-past [] i h far = refl
-set-past (y ∷ l) zero h far = absurd (omega (arith, far))
-set-past (y ∷ l) (suc i) h far = ap (λ (k : List Record). y ∷ k) (set-past l i h (omega (arith, far)))
-
+-- a record that is put past the end, or where the list ends
 put-at : (there : Bool) (l : List Record) (count : ℕ) (x : Record) → set l (cond there (length l) count) x ≡ cond there l (set l count x)
 put-at true l count x = set-past l (length l) x (omega arith)
 put-at false l count x = refl
 
-removed-there : (l : List Record) (count k : ℕ) → k < count → count ≤ length l → removedAt l count k ≡ removed l count k
-unfolding removedAt
-removed-there l count k below within = rw (lt-ltb k count below, le-leb count (length l) within) refl
-
-removed-none : (l : List Record) → removedAt l 0 0 ≡ l
-unfolding removedAt
-removed-none l = refl
-
--- the place of a listed entry
-place-below : (l : List Pair) (i : ℕ) → has l i ≡ true → placeOf l i < length l
-unfolding has placeOf
-place-below [] i e = absurd (subst Holds (sym e) tt)
-place-below (x ∷ l) i e = by-case (eqb (x .0) i) e (place-below l i)
-  where
-    by-case : (b : Bool) → (b || has l i) ≡ true → (has l i ≡ true → placeOf l i < length l) → cond b 0 (suc (placeOf l i)) < suc (length l)
-    by-case true q later = omega arith
-    by-case false q later = let below = later q in omega (arith, below)
-
-listed-length : (S : List ℕ) (records : List Record) (count : ℕ) → count ≤ length records → length (listed (filled S records count)) ≡ count
-listed-length S records count few =
-    let l = length-map (take count records) pairOf in
-    let t = length-take count records in
-    omega (arith, few, l, t)
-
 module _ (G : Given) (S work : List ℕ) (records : List Record) (count : ℕ) where
   abbrev F : Filled
   F = filled S records count
-
-  -- an entry that is withdrawn is listed
-  is-listed : (i : ℕ) → first (withdrawCauses G F work i) ≡ 0 → has (listed F) i ≡ true
-  is-listed i e =
-      let none = none-met (withdrawOwn S (listed F) i G) (omega arith) (unrefused G (ownOf F work) (withdrawOwn S (listed F) i) e .rest-none) in
-      not-false (has (listed F) i) (none .1 .1 .1 .0)
 
   -- the pairs that are read, and those that the records are
   module _ (list : List ℕ) (long : length list ≡ 8192) where
@@ -86,16 +52,9 @@ module _ (G : Given) (S work : List ℕ) (records : List Record) (count : ℕ) w
 
     passed : (rest : Given → List (ℕ × Bool)) → first (callCauses G (ownOf F work) rest) ≡ 0 → (read ≡ listed F) × (count ≤ length records)
     passed rest e =
-        let C = columns (G .numbers) in
-        let many = eqb (length records) (product (G .radices)) in
-        let within = leb count (length records) in
         let u = unrefused G (ownOf F work) rest e in
-        let parts = both-true (eqb (length S) (storeSize C)) (eqb (length work) (storeSize C) && (many && within)) (u .own-fits) in
-        let lists = both-true many within (both-true (eqb (length work) (storeSize C)) (many && within) (parts .1) .1) in
-        let size = eqb-true (length records) (product (G .radices)) (lists .0) in
-        let few = leb-true count (length records) (lists .1) in
-        let limit = u .lent .radices .limit in
-        (unpacked-listed S records count list few (omega (arith, size, limit, long)), few)
+        let parts = parts-of (G .numbers) (G .radices) (length S) (length work) (length records) count (u .own-fits) in
+        (unpacked-listed S records count list (parts .few) (omega (arith, parts .records, u .lent .radices .limit, long)), parts .few)
 
     same-refusal : (rest : List Pair → Given → List (ℕ × Bool)) → first (callCauses G (ownOf F work) (rest read)) ≡ first (callCauses G (ownOf F work) (rest (listed F)))
     same-refusal rest = by-first (first (callCauses G (ownOf F work) (λ _. []))) refl
@@ -109,7 +68,11 @@ module _ (G : Given) (S work : List ℕ) (records : List Record) (count : ℕ) w
         → (read ≡ listed F) × (count ≤ length records) × (has (listed F) i ≡ true)
     listed-there i e =
         let meant = passed (withdrawOwn S read i) e in
-        (meant .0, meant .1, is-listed i (sym (same-refusal (λ (l : List Pair). withdrawOwn S l i)) ∙ e))
+        (
+          meant .0,
+          meant .1,
+          found G S (listed F) i (unrefused G (ownOf F work) (withdrawOwn S (listed F) i) (sym (same-refusal (λ (l : List Pair). withdrawOwn S l i)) ∙ e) .rest-none),
+        )
 
   -- what filing leaves, by its refusal k, where l is the listed pairs if there is none
   joins : (i v k : ℕ) (l : List Pair) (r : Placed) (S′ : List ℕ) (records′ : List Record) (count′ : ℕ) → (k ≡ 0 → l ≡ listed F)
@@ -153,8 +116,8 @@ module _ (G : Given) (S work : List ℕ) (records : List Record) (count : ℕ) w
       → records′ ≡ removedAt records (r .count) (r .«at») → filled S′ records′ count′ ≡ result k (withdrawn G F i) F
   goes i zero l r S′ records′ count′ same answered stored counted gone =
       let meant = same refl in
-      let long = listed-length S records count (meant .1) in
-      let place = place-below (listed F) i (meant .2) in
+      let long = pairs-length records count (meant .1) in
+      let place = place-below (listed F) i .0 (meant .2) in
       let below : placeOf (listed F) i < count = omega (arith, place, long) in
       let told = gone ∙ ap (λ (x : Taken). removedAt records (x .count) (x .«at»)) answered in
       let there = ap (λ (m : List Pair). removedAt records count (placeOf m i)) (meant .0) in
@@ -162,7 +125,7 @@ module _ (G : Given) (S work : List ℕ) (records : List Record) (count : ℕ) w
       ap (λ (X : List ℕ). filled X records′ count′) (stored ∙ ap (λ (m : List Pair). filedOn G (emptyStore (G .numbers)) (without m i)) (meant .0))
       ∙ ap₂ (λ (X : List Record) (c : ℕ). filled (filedOn G (emptyStore (G .numbers)) (without (listed F) i)) X c) now counted
   goes i (suc k) l r S′ records′ count′ same answered stored counted gone =
-      let now = gone ∙ ap (λ (x : Taken). removedAt records (x .count) (x .«at»)) answered ∙ removed-none records in
+      let now = gone ∙ ap (λ (x : Taken). removedAt records (x .count) (x .«at»)) answered ∙ removed-above records 0 0 (omega arith) in
       ap (λ (X : List ℕ). filled X records′ count′) stored ∙ ap₂ (λ (X : List Record) (c : ℕ). filled S X c) now counted
 
   value-by : (i value k : ℕ) (l : List Pair) → (k ≡ 0 → l ≡ listed F) → result k (valueOf l i) value ≡ result k (valueOf (listed F) i) value

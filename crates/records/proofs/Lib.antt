@@ -1,3 +1,4 @@
--- How records lie in memory, and how they move down.
+-- How records lie in memory, how they move down, and where nothing changes.
 pub mod Rows
 pub mod Shifting
+pub mod Removals

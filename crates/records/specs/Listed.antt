@@ -8,7 +8,7 @@
 --     noted list i e v            two numbers at places 2 i and 2 i + 1 of a list of numbers, where both are in it
 --     unpacked k i l list         k records from record i on, each noted at its place
 use mathlib.Core.Bool.{cond, _&&_}
-use mathlib.Core.List.{List, [], _∷_, _++_}
+use mathlib.Core.List.{List, _∷_, _++_}
 use Prim.Native.Nat.{ℕ, zero, suc, _+_, _*_, _/_}
 use lib.Dec.{ltb, leb}
 use lib.ListN.{length, take, drop, getD, set}

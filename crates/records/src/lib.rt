@@ -62,7 +62,7 @@ pub fn put(records: &mut [Record], at: usize, entry: u16, value: u16)
     }
 }
 
-// Of the first `count` records the one at a place is removed; nothing where there is none.
+// The same, and nothing where there is no such record.
 pub fn remove_at(records: &mut [Record], count: usize, at: usize)
     ensures { λ _. ⌜ now (records .exit) ≡ removedAt (now (records .entry)) count at ⌝ }
 {

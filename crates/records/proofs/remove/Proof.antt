@@ -1,8 +1,8 @@
--- `records::remove` meets its contract: a walk of its MIR, by hand, with a loop. The borrow is opened once, before the loop, and closed once, after it. A turn reads one record and stores it one place lower.
--- The loop's variant is how many records are left to move; its invariant is that moving those from here is moving all from the start.
--- Assumes nothing.
+-- `records::remove` meets its contract: a walk of its MIR, by hand, with a loop. The borrow is opened once, before the loop, and closed once, after
+-- it. A turn reads one record and stores it one place lower. The loop's variant is how many records are left to move; its invariant is that moving
+-- those from here is moving all from the start (`Shifting`). Assumes nothing.
 use mathlib.Core.Path.{_≡_, refl, sym, ap, _∙_, subst}
-use Prim.Native.Nat.{ℕ, zero, suc, _+_, _-_, _*_, _<_, _≤_, _^_}
+use Prim.Native.Nat.{ℕ, zero, suc, _+_, _-_, _<_, _≤_, _^_}
 use native.Mathlib.Omega.{arith}
 use mathlib.Core.Bool.{not}
 use mathlib.Core.List.{[], _∷_, List}
@@ -22,7 +22,7 @@ use prog.Wp.{Heap, Out, Env, afterSeq, afterBlock, afterTurn, Calls, Loops, Wp, 
 use ghost.Atoms.{Atoms}
 use contract.Monad.{Fun}
 use contract.Running.{givenOf, tables, tablesOf}
-use types.Kit.{Given, Item, ‵, _⊛_, ⋆, prop, runs, frees, anyQ, atRet, Sq, _$_, _∵_, !, qed, by, move, keep, drop, split, join, rewrite, fsplit, fjoin, fltI, feqI, suffices, frame, done}
+use types.Kit.{Given, Item, ‵, _⊛_, ⋆, runs, anyQ, atRet, Sq, _$_, _∵_, !, qed, by, move, keep, drop, split, join, rewrite, fsplit, fjoin, fltI, feqI, suffices, frame, done}
 use types.Run.{look, look-raw, init, store, store-raw, forget, stop, hop, fld, from, load, lit, of-opd, bin, and-then, no-more, assigns, assigns-last, first, skips, jumps, blocks, branches, returns, enter, alloc1, alloc0, params1, pass1, pass0, free1, free0, exec, Below, again, loops}
 use types.Part.{agg, whole, sub, look-in}
 use sound.WpLaws.{WpFn-mono}
@@ -32,7 +32,7 @@ use denote.Shadow.{pureI}
 use denote.Lend.{Held}
 use denote.Memory.{pointee}
 use denote.Plain.{uint-vals, uint-tells}
-use denote.Builtin.{u16, usize}
+use denote.Builtin.{usize}
 use denote.Ref.{RefT}
 use denote.Slice.{sliceTy, sliceVal, MutSlice, Room, heres, codedHoleys, at-slice, slice-vals, mut-slice-tells}
 use denote.Index.{row, place-is, elem-out, elem-back, elem-put, opens-slice, closes-slice}

@@ -1,14 +1,14 @@
 -- `ledger::calls::file_listed` meets its contract: what `admit` refuses, else what `file_sound` answers (`Endings`). The work store is cleared
 -- before and after. Assumes nothing.
 use mathlib.Core.Path.{_≡_, refl, sym, ap, ap₂, _∙_}
-use mathlib.Core.List.{List, [], _∷_}
+use mathlib.Core.List.{List, []}
 use Prim.Native.Nat.{ℕ, _*_, _≤_, _<_}
 use native.Mathlib.Omega.{arith}
 use lib.ListN.{length, replicate}
 use borrow.Author.Needs.{needs}
-use Rattle.plan.specs.Causes.{first, result, gives, answer}
-use Rattle.plan.specs.Numbers.{columns, product, answerOf}
-use Rattle.plan.specs.Parts.{Given, lend, given, storeSize, callCauses}
+use Rattle.plan.specs.Causes.{result, gives, answer}
+use Rattle.plan.specs.Numbers.{columns, answerOf}
+use Rattle.plan.specs.Parts.{Given, lend, given}
 use Rattle.plan.specs.declared.numbers.Plan.{Plan}
 use Rattle.plan.proofs.Bounds.{modulus}
 use Rattle.plan.proofs.Refusals.{answer-refuses, answer-gives}
@@ -17,7 +17,7 @@ use Rattle.store.specs.Calls.{emptyStore, outcomeOf, valuesOf, filed}
 use Rattle.store.specs.Calls as stores
 use Rattle.store.proofs.StoreCalls.{cleared-work}
 use Rattle.ledger.specs.Calls.{recordOwn, lentOwn, workAfter}
-use Rattle.ledger.specs.Stages.{pairs, recordRefusal, FiledListed}
+use Rattle.ledger.specs.Stages.{pairs, recordRefusal}
 use Rattle.ledger.proofs.Endings.{Parts, parts-of, in-range, left-alone, refused-filing, kept-filing}
 use Rattle.ledger.proofs.calls.file_listed.Statement.{statement}
 use Rattle.ledger.proofs.calls.file_listed.Tie as tie

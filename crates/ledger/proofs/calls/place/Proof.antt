@@ -1,14 +1,10 @@
 -- `ledger::calls::place` meets its contract: the entry is listed exactly when its place is in the list (`Soundness`). Assumes nothing.
-use mathlib.Core.Path.{_≡_, refl, sym, ap, ap₂, _∙_}
-use mathlib.Core.Bool.{Bool, true, false, cond}
-use mathlib.Core.List.{List}
+use mathlib.Core.Path.{sym, ap, _∙_}
 use mathlib.Core.Logic.{⊎-elim}
-use Prim.Native.Nat.{ℕ, _+_, _≤_}
-use native.Mathlib.Omega.{arith}
+use Prim.Native.Nat.{ℕ}
 use borrow.Author.Needs.{needs}
-use Rattle.ledger.specs.Lists.{Pair, has, placeOf}
 use Rattle.ledger.specs.Stages.{pairs, placed}
-use Rattle.ledger.proofs.Soundness.{not-listed, is-listed, pairs-length}
+use Rattle.ledger.proofs.Soundness.{not-listed, is-listed, read-length}
 use Rattle.ledger.proofs.calls.place.Statement.{statement}
 use Rattle.ledger.proofs.calls.place.Tie as tie
 
@@ -29,7 +25,7 @@ returns c =
     let a = c .before .before .before .before .args in
     let l = pairs (a .count .now) (a .list .now) in
     let find = c .before .find in
-    let all = pairs-length (a .count .now) 0 (a .list .now) in
+    let all = read-length (a .count .now) 0 (a .list .now) in
     ⊎-elim
     (λ w. rw (not-listed l (a .entry) (a .count .now) all (sym (find .ensures) ∙ w .0 .taken)) (w .1, ap (λ (k : ℕ). placed 0 k (a .entry) (a .value)) (w .2)))
     (λ w. rw (is-listed l (a .entry) (a .count .now) all (λ e. w .0 .left (find .ensures ∙ e))) (w .1, ap (λ (k : ℕ). placed 0 k (a .entry) (a .value)) (w .2)))

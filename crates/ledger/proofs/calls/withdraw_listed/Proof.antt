@@ -2,16 +2,16 @@
 -- before and after. Assumes nothing.
 use mathlib.Core.Path.{_≡_, refl, sym, ap, ap₂, _∙_}
 use mathlib.Core.Bool.{true}
-use mathlib.Core.List.{List, []}
+use mathlib.Core.List.{[]}
 use Prim.Native.Nat.{ℕ, _+_, _*_, _≤_, _<_}
 use native.Mathlib.Nat.{pos-of-ne-zero}
 use native.Mathlib.Omega.{arith}
 use lib.ListN.{length, replicate}
 use borrow.Author.Needs.{needs}
 use Rattle.lists.specs.Places.{at}
-use Rattle.plan.specs.Causes.{first, result}
-use Rattle.plan.specs.Numbers.{columns, product, answerOf}
-use Rattle.plan.specs.Parts.{Given, lend, given, storeSize, callCauses}
+use Rattle.plan.specs.Causes.{result}
+use Rattle.plan.specs.Numbers.{answerOf}
+use Rattle.plan.specs.Parts.{Given, lend, given}
 use Rattle.plan.specs.declared.numbers.Plan.{Plan}
 use Rattle.plan.proofs.Admitting.{Admitted, admission, turned-away}
 use Rattle.store.specs.Calls.{emptyStore}
@@ -20,7 +20,7 @@ use Rattle.ledger.specs.Lists.{has, placeOf, without, filedOn}
 use Rattle.ledger.specs.Calls.{withdrawOwn, lentOwn, workAfter}
 use Rattle.ledger.specs.Stages.{pairs, takenBy, withdrawRefusal}
 use Rattle.ledger.specs.declared.calls.Taken.{Taken}
-use Rattle.ledger.proofs.Soundness.{place-below, pairs-length, value-at}
+use Rattle.ledger.proofs.Soundness.{place-below, read-length, value-at}
 use Rattle.ledger.proofs.Endings.{Parts, parts-of, left-alone, refused-taking, taken-facts, found, refused-withdrawal, made-withdrawal}
 use Rattle.ledger.proofs.calls.withdraw_listed.Statement.{statement}
 use Rattle.ledger.proofs.calls.withdraw_listed.Tie as tie
@@ -115,7 +115,7 @@ made c zero =
       none = facts .0;
       place = facts .1;
       listed = there;
-      near = omega (arith, facts .1, place-below l (a .entry) .0 there, pairs-length (a .count .now) 0 (a .list .now));
+      near = omega (arith, facts .1, place-below l (a .entry) .0 there, read-length (a .count .now) 0 (a .list .now));
       few = omega (arith, p .few, p .records, q .lent .radices .limit);
     }
 

@@ -1,7 +1,7 @@
 -- `ledger::calls::withdraw_sound` meets its contract: causes 6, 16, 7 and 17 in turn, else the rest of the list is filed on the empty store.
 -- Assumes nothing.
-use mathlib.Core.Path.{_≡_, refl, sym, ap, _∙_}
-use mathlib.Core.Bool.{true, false}
+use mathlib.Core.Path.{_≡_, sym, ap, _∙_}
+use mathlib.Core.Bool.{true}
 use mathlib.Core.List.{List}
 use Prim.Native.Nat.{ℕ, _<_}
 use native.Mathlib.Omega.{arith}
@@ -17,7 +17,7 @@ use Rattle.store.proofs.StoreCalls.{columns-small}
 use Rattle.ledger.specs.Lists.{Pair, sound}
 use Rattle.ledger.specs.Calls.{withdrawOwn}
 use Rattle.ledger.specs.Stages.{pairs}
-use Rattle.ledger.proofs.Soundness.{sound-ranged, not-listed, is-listed, pairs-length}
+use Rattle.ledger.proofs.Soundness.{sound-ranged, not-listed, is-listed, read-length}
 use Rattle.ledger.proofs.Endings.{refused-taking, made-taking}
 use Rattle.ledger.proofs.calls.withdraw_sound.Statement.{statement}
 use Rattle.ledger.proofs.calls.withdraw_sound.Tie as tie
@@ -128,7 +128,7 @@ returns-4 c =
     let l = n .before .before in
     let e = l .before .before .before .before .before .before in
     let s = start (e .before .before) in
-    let absent = not-listed (list s) (s .args .entry) (s .args .count) (pairs-length (s .args .count) 0 (s .args .list .now)) (sym (c .before .find .ensures) ∙ c .if4 .taken) in
+    let absent = not-listed (list s) (s .args .entry) (s .args .count) (read-length (s .args .count) 0 (s .args .list .now)) (sym (c .before .find .ensures) ∙ c .if4 .taken) in
     refused-taking (refusal s) 17 _ _ _ _ _ (sym (rw (passing e, listed l, lt-ltb _ _ (near n), absent))) (omega arith)
 
 clear-requires : tie.Need-clear-requires
@@ -154,7 +154,7 @@ returns-5 c =
     let l = n .before .before in
     let e = l .before .before .before .before .before .before in
     let s = start (e .before .before) in
-    let there = is-listed (list s) (s .args .entry) (s .args .count) (pairs-length (s .args .count) 0 (s .args .list .now)) (λ q. d .if4 .left (d .before .find .ensures ∙ q)) in
+    let there = is-listed (list s) (s .args .entry) (s .args .count) (read-length (s .args .count) 0 (s .args .list .now)) (λ q. d .if4 .left (d .before .find .ensures ∙ q)) in
     made-taking (refusal s) _ _ _ _ _ _ _ (rw (passing e, listed l, lt-ltb _ _ (near n), there)) (d .before .find .ensures) (c .before .before .refile .ensures .0)
 
 pub withdraw-sound-spec : {M : Type 1} → statement M

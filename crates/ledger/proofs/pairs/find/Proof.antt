@@ -1,11 +1,9 @@
 -- `ledger::pairs::find` meets its contract: the entry's place is as far as the loop has come and its place in the rest. Assumes nothing.
 use mathlib.Core.Path.{_≡_, sym, ap, _∙_}
 use mathlib.Core.List.{List}
-use Prim.Native.Nat.{ℕ, _+_, _-_, _*_, _≤_}
+use Prim.Native.Nat.{_+_, _-_, _*_, _≤_}
 use native.Mathlib.Nat.{zero-add}
 use native.Mathlib.Omega.{arith}
-use borrow.Author.Needs.{needs}
-use Rattle.lists.specs.Places.{at}
 use Rattle.ledger.specs.Lists.{Pair, placeOf}
 use Rattle.ledger.specs.Stages.{pairs}
 use Rattle.ledger.proofs.Rests.{rest, rest-all, rest-next, rest-none, place-next, place-found, place-none}

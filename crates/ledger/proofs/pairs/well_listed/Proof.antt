@@ -3,12 +3,12 @@
 use mathlib.Core.Path.{_≡_, refl, sym, ap, ap₂, _∙_}
 use mathlib.Core.Bool.{false, _&&_}
 use mathlib.Core.List.{_∷_}
-use Prim.Native.Nat.{ℕ, _+_, _-_, _*_, _≤_, _<_}
+use Prim.Native.Nat.{_+_, _-_, _*_, _≤_}
 use native.Mathlib.Omega.{arith}
-use lib.ListN.{length, length-set, replicate}
+use lib.ListN.{length, length-set}
 use borrow.Author.Needs.{needs}
 use Rattle.lists.specs.Places.{at}
-use Rattle.ledger.specs.Lists.{Pair, distinct}
+use Rattle.ledger.specs.Lists.{distinct}
 use Rattle.ledger.specs.Stages.{pairs, ranged}
 use Rattle.ledger.proofs.Rests.{rest, rest-all, rest-next, rest-none, well, well-start, well-next, well-high, well-value, well-marked, well-none}
 use Rattle.ledger.proofs.pairs.well_listed.Statement.{statement}

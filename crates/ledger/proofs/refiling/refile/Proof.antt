@@ -1,9 +1,9 @@
 -- `ledger::refiling::refile` meets its contract: filing what is left gives what filing all gives (`Orders`). Assumes nothing.
-use mathlib.Core.Path.{_≡_, sym, ap, subst, _∙_}
+use mathlib.Core.Path.{sym, ap, subst, _∙_}
 use mathlib.Core.Bool.{Bool, true, _&&_, and-false, and-true}
-use mathlib.Core.List.{List, [], _∷_}
+use mathlib.Core.List.{List, _∷_}
 use mathlib.Core.Logic.{⊎-elim}
-use Prim.Native.Nat.{ℕ, _+_, _-_, _*_, _≤_, _<_}
+use Prim.Native.Nat.{_+_, _-_, _*_, _≤_}
 use native.Mathlib.Omega.{arith}
 use lib.ListN.{length, length-replicate}
 use borrow.Author.Tests.{not-true, not-false}
@@ -11,7 +11,7 @@ use Rattle.lists.specs.Places.{at}
 use Rattle.plan.specs.Numbers.{columns}
 use Rattle.plan.specs.Parts.{Given, lend, storeSize}
 use Rattle.store.specs.Calls.{emptyStore}
-use Rattle.ledger.specs.Lists.{Pair, without, filedOn}
+use Rattle.ledger.specs.Lists.{Pair, without}
 use Rattle.ledger.specs.Stages.{pairs, consistent}
 use Rattle.ledger.proofs.Rests.{rest, rest-all, rest-next, rest-none}
 use Rattle.ledger.proofs.Orders.{one-pair, Refiling, refiling-start, value-below, refiling-next, refiling-end}

@@ -1,15 +1,14 @@
 -- `ledger::refiling::refile_one` meets its contract: the pair is left out, or filed (`Orders`). Assumes nothing.
-use mathlib.Core.Path.{_≡_, sym, ap, ap₂, _∙_}
-use mathlib.Core.Bool.{Bool, not}
-use mathlib.Core.List.{List, [], _∷_}
-use Prim.Native.Nat.{ℕ, _+_, _*_, _<_}
+use mathlib.Core.Path.{sym, ap, _∙_}
+use mathlib.Core.Bool.{not}
+use Prim.Native.Nat.{_+_, _*_}
 use native.Mathlib.Omega.{arith}
 use borrow.Author.Needs.{needs}
 use Rattle.lists.specs.Places.{at}
 use Rattle.plan.specs.Parts.{Given, lend}
 use Rattle.store.specs.Calls.{outcomeOf}
-use Rattle.ledger.specs.Lists.{Pair, without, filedOn}
-use Rattle.ledger.specs.Stages.{consistent, isRefused}
+use Rattle.ledger.specs.Lists.{Pair}
+use Rattle.ledger.specs.Stages.{isRefused}
 use Rattle.ledger.proofs.Orders.{one-pair, left-out, put-in, says-refused}
 use Rattle.ledger.proofs.refiling.refile_one.Statement.{statement}
 use Rattle.ledger.proofs.refiling.refile_one.Tie as tie

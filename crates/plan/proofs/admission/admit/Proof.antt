@@ -6,7 +6,7 @@ use Rattle.plan.specs.Causes.{first}
 use Rattle.plan.specs.Numbers.{radicesFit, answerOf, checked}
 use Rattle.plan.specs.Parts.{lend, ownFits, partCauses}
 use Rattle.plan.specs.declared.numbers.Plan.{Plan}
-use Rattle.plan.specs.declared.numbers.Checked.the-variants.{Accepted, Refused}
+use Rattle.plan.specs.declared.numbers.Checked.the-variants.{Accepted}
 use Rattle.plan.proofs.Limits.{radices-of, accepted-plan, accepted-within}
 use Rattle.plan.proofs.Admitting.{admit-numbers, admit-parts, admit-passed}
 use borrow.Author.Needs.{needs}
