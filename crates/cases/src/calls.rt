@@ -203,7 +203,7 @@ fn to_half(
     full: &[u8],
     store: &mut [u8],
 ) {
-    let answer = store::to_half(
+    let answer = moves::to_half(
         held[0],
         held[1],
         held[2],
@@ -230,7 +230,7 @@ fn to_full(
     store: &[u8],
     full: &mut [u8],
 ) {
-    let answer = store::to_full(
+    let answer = moves::to_full(
         held[0],
         held[1],
         held[2],

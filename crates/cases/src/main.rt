@@ -83,7 +83,7 @@ fn read(line: &[u8], args: &mut [usize; 2048], held: &mut [usize; 18]) -> usize 
     let k = find(
         b"plan radices weights tables d digits row store beta steps plan::check plan::row store::test store::file store::coefficients \
           store::settle program::check_writing program::write_into program::write program::run listing::worst_norm readback::read_steps readback::read_listing \
-          text::print_text full store::to_half store::to_full general::general ",
+          text::print_text full moves::to_half moves::to_full general::general ",
         line,
     );
     let count = numbers(line, args);

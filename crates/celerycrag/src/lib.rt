@@ -12,8 +12,8 @@ ghost use Rattle.plan.specs.Numbers.{plan, columns};
 ghost use Rattle.plan.specs.Parts.{given, checkCauses};
 ghost use Rattle.plan.specs.Rows as rows;
 ghost use Rattle.store.specs.Calls as stores;
-ghost use Rattle.store.specs.Moves as moves;
 ghost use Rattle.store.specs.Settled as settled;
+ghost use Rattle.moves.specs.Moves as moves;
 ghost use Rattle.ledger.specs.Calls as ledgers;
 ghost use Rattle.general.specs.Suits as suits;
 ghost use Rattle.program.specs.Layout.{stepCount};
@@ -156,7 +156,25 @@ pub extern "C" fn celery_file_recorded(
 {
     let mut list = ledger::list_buffer();
     let size = records::unpack(&mut list, &*records);
-    let placed = ledger::file_listed(p, s, n, m, t, radices, weights, tables, d, store, work, &list, size, count, entry, value, column);
+    let placed = ledger::file_listed(
+        p,
+        s,
+        n,
+        m,
+        t,
+        radices,
+        weights,
+        tables,
+        d,
+        store,
+        work,
+        &list,
+        size,
+        count,
+        entry,
+        value,
+        column,
+    );
     records::put(records, placed.at, placed.entry, placed.value);
     placed.number
 }
@@ -185,7 +203,24 @@ pub extern "C" fn celery_withdraw(
 {
     let mut list = ledger::list_buffer();
     let size = records::unpack(&mut list, &*records);
-    let taken = ledger::withdraw_listed(p, s, n, m, t, radices, weights, tables, d, store, work, &list, size, count, entry, value);
+    let taken = ledger::withdraw_listed(
+        p,
+        s,
+        n,
+        m,
+        t,
+        radices,
+        weights,
+        tables,
+        d,
+        store,
+        work,
+        &list,
+        size,
+        count,
+        entry,
+        value,
+    );
     records::remove_at(records, taken.count, taken.at);
     taken.number
 }
@@ -303,7 +338,7 @@ pub extern "C" fn celery_to_half(
     ensures { λ r. ⌜ r ≡ first (moves.toHalfCauses (given p s n m t (now (radices .entry)) (now (weights .entry)) (now (tables .entry)) (now (d .entry))) (now (full .entry)) (now (half .entry))) ⌝ }
     ensures { λ r. ⌜ now (half .exit) ≡ result r (moves.halved (columns (plan p s n m t)) (now (full .entry))) (now (half .entry)) ⌝ }
 {
-    store::to_half(p, s, n, m, t, radices, weights, tables, d, full, half)
+    moves::to_half(p, s, n, m, t, radices, weights, tables, d, full, half)
 }
 
 // Moves a store back to the layout before: causes 1 2 3 4 5 6.
@@ -324,7 +359,7 @@ pub extern "C" fn celery_to_full(
     ensures { λ r. ⌜ r ≡ first (moves.toFullCauses (given p s n m t (now (radices .entry)) (now (weights .entry)) (now (tables .entry)) (now (d .entry))) (now (half .entry)) (now (full .entry))) ⌝ }
     ensures { λ r. ⌜ now (full .exit) ≡ result r (moves.widened (columns (plan p s n m t)) (now (half .entry))) (now (full .entry)) ⌝ }
 {
-    store::to_full(p, s, n, m, t, radices, weights, tables, d, half, full)
+    moves::to_full(p, s, n, m, t, radices, weights, tables, d, half, full)
 }
 
 // The number that `celery_write` would answer; nothing is written.

@@ -21,7 +21,7 @@ use Rattle.store.specs.declared.settling.Settled.the-variants.{Forced, Free}
 use Rattle.store.specs.Settled as settling
 use Rattle.store.specs.Settled.{standing, settleAnswer}
 use Rattle.store.specs.Reading.{State, stateOf, rowSound, counted, stateAfter, isDamaged, rowOf}
-use Rattle.store.specs.Moves.{fullFlat, halved, widened, toHalfCauses, toFullCauses, fullFileAnswer, fullFileStore}
+use Rattle.moves.specs.Moves.{fullFlat, halved, widened, toHalfCauses, toFullCauses, fullFileAnswer, fullFileStore}
 use Rattle.program.specs.Steps.{tableAt, goodStep, wellFormed, assigned, stepped, registers, bootstraps, output}
 use Rattle.program.specs.Layout.{adds, linkSteps, productSteps, layout, stepCount}
 use Rattle.program.specs.Calls.{digitsFit, runAnswer}

@@ -1,5 +1,5 @@
 -- C-16: nothing is lost by a move, and every call answers over the new layout what it answered over the old one (`NoLoss`, `SameCalls`,
--- `SameFilings` of specs/Moves).
+-- `SameFilings` of `moves`).
 --     no-loss           what a move gives, the other takes, and gives back what it was
 --     same-calls        one call, on an old store in reduced form
 --     same-filings      after every list of filings from it
@@ -28,7 +28,7 @@ use Rattle.store.specs.Elimination.{Reduced, isReduced, after, cells}
 use Rattle.store.specs.Calls.{equation, emptyStore, valuesOf, outcomeOf, fileCauses, filed, coefficients}
 use Rattle.store.specs.Settled as settled
 use Rattle.store.specs.Settled.{standingOf, settleCauses}
-use Rattle.store.specs.Moves.{fullCells, fullFlat, halved, widened, toHalfOwn, toFullOwn, NoLoss, fullCauses, fullOutcome, fullFileCauses, fullFileStore, fullStanding, fullCoefficients, SameCalls, filedAll, fullFiledAll, SameFilings}
+use Rattle.moves.specs.Moves.{fullCells, fullFlat, halved, widened, toHalfOwn, toFullOwn, NoLoss, fullCauses, fullOutcome, fullFileCauses, fullFileStore, fullStanding, fullCoefficients, SameCalls, filedAll, fullFiledAll, SameFilings}
 use Rattle.store.proofs.Bytes.{flat-length, flat-ext}
 use Rattle.store.proofs.ReducedForm.{isReduced-means, reduced-ext, flat-reads, flat-reduced}
 use Rattle.store.proofs.Filing.{after-reduced}
@@ -36,7 +36,7 @@ use Rattle.store.proofs.Holding.{empty-reduced}
 use Rattle.store.proofs.EntryEquations.{equation-residues}
 use Rattle.store.proofs.Readiness.{unmet}
 use Rattle.laws.proofs.SameOutcomes.{outcome-ext, after-ext, standing-ext}
-use Rattle.store.proofs.FullLayout.{full-length, cells-full, halved-widened, widened-halved, stands-for, zeros-halved}
+use Rattle.moves.proofs.FullLayout.{full-length, cells-full, halved-widened, widened-halved, stands-for, zeros-halved}
 
 pub no-loss : (G : Given) → NoLoss G
 no-loss G =

@@ -5,7 +5,6 @@ pub mod RowStarts
 pub mod Bytes
 pub mod Combinations
 pub mod ReducedForm
-pub mod FullLayout
 pub mod Residuals
 pub mod Inserting
 pub mod SamePlaces
@@ -23,7 +22,6 @@ pub mod RowTests
 pub mod OneReading
 pub mod Layouts
 pub mod TakingRows
-pub mod RowMoves
 pub mod Multiples
 pub mod Deferring
 pub mod Freeing

@@ -1,6 +1,6 @@
 // The test of reduced form in a single reading of the store: the rows one by one in order, row 0 first, each from its diagonal on. A state
 // goes in with each row and comes out, and sees no row again; the answer is what it says after the last row. Of a store in the layout before C-16
-// the same rows are taken, and what lies left of the diagonals is tested by itself.
+// the same rows are taken; what lies left of the diagonals is tested by itself, in `moves`.
 ghost use mathlib.Core.Path.{_≡_};
 ghost use mathlib.Core.Bool.{true, cond, not};
 ghost use Prim.Native.Nat.{_+_, _≤_, _<_};
@@ -8,9 +8,8 @@ ghost use lib.Dec.{eqb};
 ghost use lib.ListN.{length, drop};
 ghost use Rattle.lists.specs.Places.{tab, at};
 ghost use Rattle.field.specs.Residues.{Modulus};
-ghost use Rattle.plan.specs.Parts.{storeSize, fullSize};
+ghost use Rattle.plan.specs.Parts.{storeSize};
 ghost use Rattle.store.specs.Elimination.{isReduced, cells};
-ghost use Rattle.store.specs.Moves.{fullCells};
 ghost use Rattle.store.specs.Reading as specs;
 use plan::Plan;
 
@@ -99,7 +98,7 @@ fn take_rows(tops: &mut [u8], store: &[u8], c: usize, p: u8, full: bool) -> bool
 }
 
 // Whether the state after the last row says that the store is not damaged.
-fn passes(store: &[u8], c: usize, p: u8, full: bool) -> bool
+pub fn passes(store: &[u8], c: usize, p: u8, full: bool) -> bool
     requires { ⌜ c ≤ 1024 ⌝ }
     requires { ⌜ length (now store) ≡ specs.sizeOf full c ⌝ }
     requires { ⌜ (full ≡ true → specs.leftZero c (now store) ≡ true) ⌝ }
@@ -123,37 +122,4 @@ pub fn is_reduced(store: &[u8], c: usize, p: u8) -> bool
     ensures { λ r. ⌜ r ≡ isReduced p c (cells c (now (store .entry))) ⌝ }
 {
     passes(store, c, p, false)
-}
-
-// Whether each row of a store in the layout before is zero left of its diagonal.
-fn left_zero(full: &[u8], c: usize) -> bool
-    requires { ⌜ c ≤ 1024 ⌝ }
-    requires { ⌜ length (now full) ≡ fullSize c ⌝ }
-    ensures { λ r. ⌜ r ≡ specs.leftZero c (now (full .entry)) ⌝ }
-{
-    let width = c + 1;
-    let mut begin: usize = 0;
-    let mut q: usize = 0;
-    while q < c {
-        let a = begin + q;
-        if !field::all_below(&full[begin..a], 1) {
-            return false;
-        }
-        begin += width;
-        q += 1;
-    }
-    true
-}
-
-// Whether a store in the layout before, C rows of C + 1 bytes, is in reduced form modulo p.
-pub fn is_reduced_full(full: &[u8], c: usize, p: u8) -> bool
-    requires { ⌜ c ≤ 1024 ⌝ }
-    requires { ⌜ Modulus p ⌝ }
-    requires { ⌜ length (now full) ≡ fullSize c ⌝ }
-    ensures { λ r. ⌜ r ≡ isReduced p c (fullCells c (now (full .entry))) ⌝ }
-{
-    if !left_zero(full, c) {
-        return false;
-    }
-    passes(full, c, p, true)
 }

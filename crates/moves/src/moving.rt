@@ -4,7 +4,7 @@ ghost use mathlib.Core.List.{_++_};
 ghost use Prim.Native.Nat.{_+_, _≤_};
 ghost use lib.ListN.{length, replicate};
 ghost use Rattle.plan.specs.Parts.{storeSize, fullSize};
-ghost use Rattle.store.specs.Moves as specs;
+ghost use Rattle.moves.specs.Moves as specs;
 
 // To the new layout: of each row the part from its diagonal on.
 pub fn halve(full: &[u8], half: &mut [u8], c: usize)

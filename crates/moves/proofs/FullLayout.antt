@@ -17,10 +17,10 @@ use Rattle.lists.specs.Places.{at}
 use Rattle.lists.proofs.Tabs.{tab-length, tab-at, tab-ext, is-tab}
 use Rattle.lists.proofs.Parts.{zeros-at}
 use Rattle.plan.specs.Parts.{storeSize, fullSize}
 use Rattle.store.specs.Elimination.{Reduced, rowStart, cells}
-use Rattle.store.specs.Moves.{fullCells, fullFlat, halved, widened}
+use Rattle.moves.specs.Moves.{fullCells, fullFlat, halved, widened}
 use Rattle.store.proofs.Bytes.{cells-right, flat-cells, flat-ext}
 use Rattle.store.proofs.ReducedForm.{reduced-ext, flat-reads}
 
 pub full-length : (C : ℕ) (S : ℕ → ℕ → ℕ) → length (fullFlat C S) ≡ fullSize C
 unfolding fullFlat

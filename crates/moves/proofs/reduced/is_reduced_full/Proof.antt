@@ -1,11 +1,11 @@
--- `store::reduced::is_reduced_full` meets its contract: nothing lies left of a diagonal, and that the state says so is reduced form then
--- (`Layouts`). Assumes nothing.
+-- `moves::reduced::is_reduced_full` meets its contract: nothing lies left of a diagonal, and that the state says so is reduced form then
+-- (`FullReading`). Assumes nothing.
 use mathlib.Core.Path.{sym, _∙_}
 use borrow.Author.Needs.{needs}
 use borrow.Author.Tests.{not-true, not-false}
-use Rattle.store.proofs.Layouts.{full-tested, full-left}
-use Rattle.store.proofs.reduced.is_reduced_full.Statement.{statement}
-use Rattle.store.proofs.reduced.is_reduced_full.Tie as tie
+use Rattle.moves.proofs.FullReading.{full-tested, full-left}
+use Rattle.moves.proofs.reduced.is_reduced_full.Statement.{statement}
+use Rattle.moves.proofs.reduced.is_reduced_full.Tie as tie
 
 left-zero-requires : tie.Need-left-zero-requires
 left-zero-requires c κs = search needs

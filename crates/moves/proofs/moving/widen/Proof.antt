@@ -1,13 +1,13 @@
--- `store::moving::widen` meets its contract: row after row is written (`RowMoves`). Assumes nothing.
+-- `moves::moving::widen` meets its contract: row after row is written (`RowMoves`). Assumes nothing.
 use mathlib.Core.Path.{sym, _∙_}
 use Prim.Native.Nat.{_+_, _-_, _≤_}
 use native.Mathlib.Omega.{arith}
 use lib.ListN.{length}
 use Rattle.lists.proofs.Parts.{cut-length}
 use Rattle.plan.specs.Parts.{fullSize}
-use Rattle.store.proofs.RowMoves.{Widening, widening-none, widening-room, widening-part, widening-next, widening-all}
-use Rattle.store.proofs.moving.widen.Statement.{statement}
-use Rattle.store.proofs.moving.widen.Tie as tie
+use Rattle.moves.proofs.RowMoves.{Widening, widening-none, widening-room, widening-part, widening-next, widening-all}
+use Rattle.moves.proofs.moving.widen.Statement.{statement}
+use Rattle.moves.proofs.moving.widen.Tie as tie
 
 abbrev Inv-loop : tie.InvT-loop
 Inv-loop half full₀ c width from₀ to₀ q₀ full from to q = Widening c half full₀ q from to full

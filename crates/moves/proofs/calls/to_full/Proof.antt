@@ -1,4 +1,4 @@
--- `store::calls::to_half` meets its contract: what `admit` refuses, else cause 6 of the store that is read (`Admitting` of plan), and only the
+-- `moves::calls::to_full` meets its contract: what `admit` refuses, else cause 6 of the store that is read (`Admitting` of plan), and only the
 -- last return has written the other. Assumes nothing.
 use mathlib.Core.Path.{_≡_, refl, sym, ap, _∙_}
 use Prim.Native.Nat.{ℕ}
@@ -13,11 +13,11 @@ use Rattle.plan.specs.declared.admission.Own.the-variants.{StoreAndFull}
 use Rattle.plan.proofs.Bounds.{modulus}
 use Rattle.plan.proofs.Refusals.{result-refused}
 use Rattle.plan.proofs.Admitting.{Admitted, admission, turned-away}
-use Rattle.store.specs.Elimination.{isReduced}
-use Rattle.store.specs.Moves.{fullCells, halved}
+use Rattle.store.specs.Elimination.{isReduced, cells}
+use Rattle.moves.specs.Moves.{widened}
 use Rattle.store.proofs.StoreCalls.{columns-small}
-use Rattle.store.proofs.calls.to_half.Statement.{statement}
-use Rattle.store.proofs.calls.to_half.Tie as tie
+use Rattle.moves.proofs.calls.to_full.Statement.{statement}
+use Rattle.moves.proofs.calls.to_full.Tie as tie
 
 abbrev start : tie.After-plan → tie.Start
 start c = c .before .before .before .before .before .before .before .before .before
@@ -42,12 +42,12 @@ fit c =
     (eqb-true _ _ (b .0), eqb-true _ _ (b .1))
 
 -- what the test of the store says
-sound : (c : tie.After-is-reduced-full) →
+sound : (c : tie.After-is-reduced) →
     let Q = c .before .before .before .plan .given .0 .0 in
-    c .is-reduced-full .result ≡ isReduced (Q .p) (columns Q) (fullCells (columns Q) (start (c .before .before .before) .args .full .now))
+    c .is-reduced .result ≡ isReduced (Q .p) (columns Q) (cells (columns Q) (start (c .before .before .before) .args .half .now))
 sound c =
     let Q = c .before .before .before .plan .given .0 .0 in
-    c .is-reduced-full .ensures ∙ ap (λ (n : ℕ). isReduced (Q .p) n (fullCells n (start (c .before .before .before) .args .full .now))) (c .before .columns .ensures)
+    c .is-reduced .ensures ∙ ap (λ (n : ℕ). isReduced (Q .p) n (cells n (start (c .before .before .before) .args .half .now))) (c .before .columns .ensures)
 
 admit-requires : tie.Need-admit-requires
 admit-requires c κs = search needs
@@ -61,22 +61,22 @@ enum-known-plan c = search needs
 columns-requires : tie.Need-columns-requires
 columns-requires c κs = admitted (c .before) .within
 
-is-reduced-full-requires : tie.Need-is-reduced-full-requires
-is-reduced-full-requires c κs =
+is-reduced-requires : tie.Need-is-reduced-requires
+is-reduced-requires c κs =
     let a = admitted (c .before .before) in
     let e = c .columns .ensures in
-    (columns-small _ (a .within) e, (modulus (a .within), fit (c .before .before) .1 ∙ ap fullSize (sym e)))
+    (columns-small _ (a .within) e, (modulus (a .within), fit (c .before .before) .0 ∙ ap storeSize (sym e)))
 
 returns : tie.Need-returns
 returns c =
     let a = admitted (c .before .before .before .before) in
-    (sym (a .rest _ ∙ rw (sym (sound (c .before)) ∙ not-true (c .before .is-reduced-full .result) (c .if1 .taken))), refl)
+    (sym (a .rest _ ∙ rw (sym (sound (c .before)) ∙ not-true (c .before .is-reduced .result) (c .if1 .taken))), refl)
 
-halve-requires : tie.Need-halve-requires
-halve-requires c κs =
+widen-requires : tie.Need-widen-requires
+widen-requires c κs =
     let r = c .before .before .before .before .before in
     let e = c .before .before .before .columns .ensures in
-    (columns-small _ (admitted r .within) e, (fit r .1 ∙ ap fullSize (sym e), fit r .0 ∙ ap storeSize (sym e)))
+    (columns-small _ (admitted r .within) e, (fit r .0 ∙ ap storeSize (sym e), fit r .1 ∙ ap fullSize (sym e)))
 
 returns-2 : tie.Need-returns-2
 returns-2 c =
@@ -91,22 +91,22 @@ returns-3 c =
     let tested = c .before .before .before .before .before in
     let r = tested .before .before .before in
     let a = admitted r in (
-      sym (a .rest _ ∙ rw (sym (sound tested) ∙ not-false (tested .is-reduced-full .result) (c .before .before .before .before .if1 .left))),
-      c .before .before .halve .ensures
-          ∙ ap (λ (n : ℕ). halved n (start r .args .full .now)) (tested .before .columns .ensures ∙ sym (ap columns (a .same))),
+      sym (a .rest _ ∙ rw (sym (sound tested) ∙ not-false (tested .is-reduced .result) (c .before .before .before .before .if1 .left))),
+      c .before .before .widen .ensures
+          ∙ ap (λ (n : ℕ). widened n (start r .args .half .now)) (tested .before .columns .ensures ∙ sym (ap columns (a .same))),
     )
 
-pub to-half-spec : {M : Type 1} → statement M
-to-half-spec =
+pub to-full-spec : {M : Type 1} → statement M
+to-full-spec =
     tie.close
     (tie.spec
     admit-requires
     enum-known-k
     enum-known-plan
     columns-requires
-    is-reduced-full-requires
+    is-reduced-requires
     returns
-    halve-requires
+    widen-requires
     returns-2
     same-length
     returns-3)

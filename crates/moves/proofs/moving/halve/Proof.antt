@@ -1,13 +1,13 @@
--- `store::moving::halve` meets its contract: row after row is written (`RowMoves`). Assumes nothing.
+-- `moves::moving::halve` meets its contract: row after row is written (`RowMoves`). Assumes nothing.
 use mathlib.Core.Path.{sym, _∙_}
 use Prim.Native.Nat.{_+_, _-_, _≤_}
 use native.Mathlib.Omega.{arith}
 use lib.ListN.{length}
 use Rattle.lists.proofs.Parts.{cut-length}
 use Rattle.plan.specs.Parts.{storeSize}
-use Rattle.store.proofs.RowMoves.{Halving, halving-none, halving-room, halving-next, halving-all}
-use Rattle.store.proofs.moving.halve.Statement.{statement}
-use Rattle.store.proofs.moving.halve.Tie as tie
+use Rattle.moves.proofs.RowMoves.{Halving, halving-none, halving-room, halving-next, halving-all}
+use Rattle.moves.proofs.moving.halve.Statement.{statement}
+use Rattle.moves.proofs.moving.halve.Tie as tie
 
 abbrev Inv-loop : tie.InvT-loop
 Inv-loop full half₀ c from₀ to₀ q₀ half from to q = Halving c full half₀ q from to half

@@ -17,11 +17,11 @@ use Rattle.lists.proofs.Tabs.{is-tab}
 use Rattle.lists.proofs.Parts.{part-length, part-at, cut-length, zeros-at}
 use Rattle.lists.proofs.Overwrite.{Written, written-none, written-part, written-all}
 use Rattle.plan.specs.Parts.{storeSize, fullSize}
 use Rattle.store.specs.Elimination.{rowStart, cells}
-use Rattle.store.specs.Moves.{fullCells, halved, widened}
+use Rattle.moves.specs.Moves.{fullCells, halved, widened}
 use Rattle.store.proofs.RowStarts.{start-zero, start-next, start-last, row-end}
 use Rattle.store.proofs.Bytes.{cells-left, cells-right, flat-length, flat-at}
-use Rattle.store.proofs.FullLayout.{full-length, cells-full}
+use Rattle.moves.proofs.FullLayout.{full-length, cells-full}
 
 -- a row of the old layout, as the code writes it: zs over its first q places, then ys over the rest
 pub row-joined : (xs zs ys : List ℕ) (q : ℕ) → q ≤ length xs → zs ≡ replicate (length (take q xs)) 0

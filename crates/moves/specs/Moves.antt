@@ -1,6 +1,6 @@
 -- 02, C-16: "Stores on disk move to the new layout and back without loss." The layout before it, the moves, and what the calls answered over the
 -- old layout, word for word as it was. Both layouts are readings by row and column, and nothing else of a call knows them. G is a plan as lent.
--- Stands on `Elimination`, `Calls` and `Settled`.
+-- Stands on `Elimination`, `Calls` and `Settled` of `store`.
 --     fullCells C full, fullFlat C S      "C rows of C+1 bytes" (01): their reading by row and column, and the bytes of such a reading
 --     halved C full                  an old store moved to the new layout
 --     widened C half                 a new store moved to the old layout: the old store that it stands for

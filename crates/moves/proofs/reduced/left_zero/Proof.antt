@@ -1,13 +1,14 @@
--- `store::reduced::left_zero` meets its contract: row after row is asked (`Layouts`). Assumes nothing.
+-- `moves::reduced::left_zero` meets its contract: row after row is asked (`FullReading`). Assumes nothing.
 use mathlib.Core.Path.{sym}
 use mathlib.Core.Bool.{true}
 use Prim.Native.Nat.{_+_, _-_, _≤_}
 use native.Mathlib.Omega.{arith}
 use lib.ListN.{length}
 use borrow.Author.Tests.{not-true, not-false}
-use Rattle.store.proofs.Layouts.{layout-end, LeftRead, left-none, left-next, left-fails, left-all}
-use Rattle.store.proofs.reduced.left_zero.Statement.{statement}
-use Rattle.store.proofs.reduced.left_zero.Tie as tie
+use Rattle.store.proofs.Layouts.{layout-end}
+use Rattle.moves.proofs.FullReading.{LeftRead, left-none, left-next, left-fails, left-all}
+use Rattle.moves.proofs.reduced.left_zero.Statement.{statement}
+use Rattle.moves.proofs.reduced.left_zero.Tie as tie
 
 abbrev Inv-loop : tie.InvT-loop
 Inv-loop full c width begin₀ q₀ begin q = LeftRead c full q begin

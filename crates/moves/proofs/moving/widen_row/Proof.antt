@@ -1,4 +1,4 @@
--- `store::moving::widen_row` meets its contract: the zeros and the part are one behind the other (`RowMoves`). Assumes nothing.
+-- `moves::moving::widen_row` meets its contract: the zeros and the part are one behind the other (`RowMoves`). Assumes nothing.
 use mathlib.Core.Path.{sym, ap, _∙_}
 use mathlib.Core.List.{List, _++_}
 use Prim.Native.Nat.{ℕ}
@@ -6,9 +6,9 @@ use native.Mathlib.Omega.{arith}
 use lib.ListN.{replicate}
 use lib.Seq.{length-take-le}
 use borrow.Author.Needs.{needs}
-use Rattle.store.proofs.RowMoves.{row-joined}
-use Rattle.store.proofs.moving.widen_row.Statement.{statement}
-use Rattle.store.proofs.moving.widen_row.Tie as tie
+use Rattle.moves.proofs.RowMoves.{row-joined}
+use Rattle.moves.proofs.moving.widen_row.Statement.{statement}
+use Rattle.moves.proofs.moving.widen_row.Tie as tie
 
 slice-relend-prefix-clear : tie.Need-slice-relend-prefix-clear
 slice-relend-prefix-clear c = search needs
