@@ -67,8 +67,13 @@ module _ (G : Given) (accepted : Accepted G) (F : Filled) (K : List Pair) (h : K
           }
       by false e =
           let free : F .count < length (F .records) =
-              omega (arith, h .wide, pairs-length (F .records) (F .count) (h .fits), short (product (G .radices)) l i (h .once)
-              (λ j u m. h .held .ranges j u (h .alike j u .1 m) .0) (g .ranges i v new .0) e) in
+          omega (
+            arith,
+            h .wide,
+            pairs-length (F .records) (F .count) (h .fits),
+            short (product (G .radices)) l i (h .once)
+                (λ j u m. h .held .ranges j u (h .alike j u .1 m) .0) (g .ranges i v new .0) e,
+          ) in
           let list = pairs-joined (F .records) (F .count) i v free in
           record {
             wide = length-set (F .records) (F .count) (recordOf i v) ∙ h .wide;

@@ -99,8 +99,8 @@ module _ (G : Given) (accepted : Accepted G) where
         let here = more (x .0) (x .1) (List·Memᴰ·head refl) in
         let f = filed-kept T L g (x .0) (x .1) (agrees T L g inside (x .0) (x .1) here) in
         let rest = refiles k (filed G T (x .0) (x .1)) (L ++ (x ∷ [])) (f .1)
-            (λ i v m. ⊎-elim (inside i v) (λ n. Memᴰ·cast (List·Memᴰ·eq-of-singleton n) here) (List·Memᴰ·append-cases L m))
-            (λ i v m. more i v (List·Memᴰ·tail m)) in (
+        (λ i v m. ⊎-elim (inside i v) (λ n. Memᴰ·cast (List·Memᴰ·eq-of-singleton n) here) (List·Memᴰ·append-cases L m))
+        (λ i v m. more i v (List·Memᴰ·tail m)) in (
           both (eqb (first (pairCauses G T x)) 0) (accepts G (filed G T (x .0) (x .1)) k) (eq-eqb _ _ (f .0)) (rest .0),
           subst (λ (X : List Pair). Held G (filedOn G (filed G T (x .0) (x .1)) k) X) (append-assoc L (x ∷ []) k) (rest .1),
         )

@@ -8,7 +8,7 @@ use Rattle.field.specs.Primes.{isPrime, oddPrime}
 use Rattle.field.specs.Residues.{inverse}
 use Rattle.plan.specs.Causes.{gives, refuses}
 use Rattle.plan.specs.Numbers.{product, badRadix, radicesFit, outOfRange}
-use Rattle.plan.specs.Parts.{lengthsFit, valuesFit, storeSize, callCauses}
+use Rattle.plan.specs.Parts.{Given, given, lengthsFit, valuesFit, storeSize, callCauses}
 use Rattle.plan.specs.Rows.{digit, chain, values, weighted, rowPlace, row}
 use Rattle.store.specs.declared.elimination.Filed.the-variants.{New, Implied, Refused}
 use Rattle.store.specs.Elimination.{isZeroRow, isPivot, isReduced, residual, lead, normal, inserted, outcome, after, rowStart, cells, flat}
@@ -34,6 +34,16 @@ full = filled (1 ∷ 0 ∷ 0 ∷ 2 ∷ 0 ∷ 1 ∷ 0 ∷ 1 ∷ 1 ∷ 1 ∷ 1 ∷
 abbrev pub less : Filled
 less = filled (1 ∷ 0 ∷ 1 ∷ 0 ∷ 1 ∷ 1 ∷ 1 ∷ 2 ∷ 2 ∷ 0 ∷ 0 ∷ 0 ∷ 0 ∷ 0 ∷ []) (recordOf 2 1 ∷ recordOf 3 0 ∷ recordOf 0 0 ∷ none ∷ []) 3
 
+-- the value of a digit is the digit times the one coefficient, modulo 5: entry 3 with 1 says what entry 1 with 2 says
+abbrev pub times : Given
+times = given 5 5 1 0 0 (5 ∷ []) [] [] []
+
+abbrev pub first-two : Filled
+first-two = filled (1 ∷ 2 ∷ []) (recordOf 1 2 ∷ recordOf 3 1 ∷ none ∷ none ∷ none ∷ []) 2
+
+abbrev pub second-alone : Filled
+second-alone = filled (1 ∷ 2 ∷ []) (recordOf 3 1 ∷ none ∷ none ∷ none ∷ none ∷ []) 1
+
 pub record Withdrawn : Type 0 where
   -- filing with records answers as filing does, and the entries join the list
   pub file-1 : recordAnswer X (upon []) work 1 1 ≡ answerOf (New 1)
@@ -53,6 +63,10 @@ pub record Withdrawn : Type 0 where
   -- then the entry takes the other value
   pub corrected : recordAnswer X less work 1 0 ≡ answerOf (New 2)
   pub corrected-β : coefficients 4 (recordAfter X less work 1 0 .store) ≡ 2 ∷ 0 ∷ 2 ∷ 0 ∷ []
+  -- an implied entry carries the store once the entry that was new is withdrawn
+  pub implied : recordAfter times (filled (1 ∷ 2 ∷ []) (recordOf 1 2 ∷ none ∷ none ∷ none ∷ none ∷ []) 1) (replicate 2 7) 3 1 ≡ first-two
+  pub carries : withdrawAfter times first-two (replicate 2 7) 1 ≡ second-alone
+  pub emptied : withdrawAfter times second-alone (replicate 2 7) 3 ≡ filled (0 ∷ 0 ∷ []) (replicate 5 none) 0
   -- 17, "when the withdrawn entry isn't listed"; 7 comes before it
   pub absent : withdrawAnswer X less work 1 ≡ refuses 17
   pub far : withdrawAnswer X less work 4 ≡ refuses 7
@@ -83,6 +97,9 @@ withdrawn =
       kept = refl;
       corrected = refl;
       corrected-β = refl;
+      implied = refl;
+      carries = refl;
+      emptied = refl;
       absent = refl;
       far = refl;
       twice = refl;

@@ -132,7 +132,7 @@ few zero [] h b = omega arith
 few zero (x ∷ l) h b = absurd (not-suc-le-zero (b (x .0) (x .1) (List·Memᴰ·head refl)))
 few (suc N) l h b =
     let rest = few N (without l N) (distinct-without l N h)
-        (λ j u m. let r = without-mem l N j u .0 m in let k = b j u (r .0) in let d = r .1 in omega arith) in
+    (λ j u m. let r = without-mem l N j u .0 m in let k = b j u (r .0) in let d = r .1 in omega arith) in
     omega (arith, length-without l N h, rest)
 
 pub short : (N : ℕ) (l : List Pair) (i : ℕ) → distinct l ≡ true → ((j u : ℕ) → List·Memᴰ (j, u) l → j < N) → i < N → has l i ≡ false → length l < N

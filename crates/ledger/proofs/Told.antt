@@ -67,8 +67,7 @@ module _ (G : Given) (S work : List ℕ) (records : List Record) (count : ℕ) w
     listed-there : (i : ℕ) → first (callCauses G (ownOf F work) (withdrawOwn S read i)) ≡ 0
         → (read ≡ listed F) × (count ≤ length records) × (has (listed F) i ≡ true)
     listed-there i e =
-        let meant = passed (withdrawOwn S read i) e in
-        (
+        let meant = passed (withdrawOwn S read i) e in (
           meant .0,
           meant .1,
           found G S (listed F) i (unrefused G (ownOf F work) (withdrawOwn S (listed F) i) (sym (same-refusal (λ (l : List Pair). withdrawOwn S l i)) ∙ e) .rest-none),

@@ -142,7 +142,19 @@ pub fn file_listed(
         },
         Checked::Accepted(plan) => {
             field::clear(work);
-            let filed = file_sound(plan, radices, weights, tables, d, store, work, list, listed, entry, value);
+            let filed = file_sound(
+                plan,
+                radices,
+                weights,
+                tables,
+                d,
+                store,
+                work,
+                list,
+                listed,
+                entry,
+                value,
+            );
             field::clear(work);
             match filed {
                 Filed::Refused(k) => Placed {
@@ -265,7 +277,18 @@ pub fn withdraw_listed(
         },
         Checked::Accepted(plan) => {
             field::clear(work);
-            let taken = withdraw_sound(plan, radices, weights, tables, d, store, work, list, listed, entry);
+            let taken = withdraw_sound(
+                plan,
+                radices,
+                weights,
+                tables,
+                d,
+                store,
+                work,
+                list,
+                listed,
+                entry,
+            );
             field::clear(work);
             if taken.number == 0 {
                 *value = list[2 * taken.at + 1];

@@ -106,7 +106,14 @@ pub fn admit(
     match Plan::new(p, s, n, m, t, radices) {
         Checked::Refused(k) => Checked::Refused(k),
         Checked::Accepted(plan) => {
-            let k = part_refusal(plan, radices, weights, tables, d, own_fits(own, plan, radices));
+            let k = part_refusal(
+                plan,
+                radices,
+                weights,
+                tables,
+                d,
+                own_fits(own, plan, radices),
+            );
             if k != 0 {
                 return Checked::Refused(k);
             }

@@ -51,8 +51,8 @@ loop-again c =
     let a = r .before .args in (
       omega arith,
       r .loop .inv .1
-      ∙ ap (λ (l : List Pair). r .loop .k + placeOf l (a .entry)) (rest-next (a .count) (r .loop .k) (a .list .now) (omega arith))
-      ∙ place-next _ (rest (a .count) (r .loop .k + 1) (a .list .now)) (a .entry) (r .loop .k) (c .if1 .left),
+          ∙ ap (λ (l : List Pair). r .loop .k + placeOf l (a .entry)) (rest-next (a .count) (r .loop .k) (a .list .now) (omega arith))
+          ∙ place-next _ (rest (a .count) (r .loop .k + 1) (a .list .now)) (a .entry) (r .loop .k) (c .if1 .left),
     )
 
 returns-2 : tie.Need-returns-2 Inv-loop μ-loop

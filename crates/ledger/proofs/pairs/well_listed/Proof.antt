@@ -47,7 +47,7 @@ loop-holds c =
       c .pre .1 .0,
       refl,
       sym (well-start (a .n) (a .s) (length (a .seen .now)) (pairs (a .count) (a .list .now)))
-      ∙ ap₂ (well (a .n) (a .s)) (sym (c .pre .1 .1)) (rest-all (a .count) (a .list .now)),
+          ∙ ap₂ (well (a .n) (a .s)) (sym (c .pre .1 .1)) (rest-all (a .count) (a .list .now)),
     )
 
 mul-entry : tie.Need-mul-entry Inv-loop μ-loop
@@ -122,8 +122,8 @@ loop-again c =
       rw length-set (loop .inv .1),
       rw length-set (loop .inv .2),
       loop .inv .3
-      ∙ next r
-      ∙ well-next (a .n) (a .s) (loop .seen) _ _ (c .before .before .before .before .if1 .left) (c .before .before .if2 .left) (loop .inv .1) (c .if3 .left),
+          ∙ next r
+          ∙ well-next (a .n) (a .s) (loop .seen) _ _ (c .before .before .before .before .if1 .left) (c .before .before .if2 .left) (loop .inv .1) (c .if3 .left),
     )
 
 same-length-4 : tie.Need-same-length-4 Inv-loop μ-loop

@@ -56,8 +56,8 @@ loop-holds c =
     let a = s .args in (
       omega arith,
       rw (s .pre .1 .1 .1 .1)
-      (subst (Refiling (lent s) (a .skip) (emptyStore (a .plan)) (pairs (a .count) (a .list .now)) (emptyStore (a .plan)) true) (rest-all (a .count) (a .list .now))
-      (refiling-start (lent s) (s .pre .0) (s .pre .1 .0) (a .skip) (pairs (a .count) (a .list .now)) (s .pre .1 .1 .1 .0))),
+          (subst (Refiling (lent s) (a .skip) (emptyStore (a .plan)) (pairs (a .count) (a .list .now)) (emptyStore (a .plan)) true) (rest-all (a .count) (a .list .now))
+          (refiling-start (lent s) (s .pre .0) (s .pre .1 .0) (a .skip) (pairs (a .count) (a .list .now)) (s .pre .1 .1 .1 .0))),
     )
 
 refile-one-requires : tie.Need-refile-one-requires Inv-loop μ-loop
@@ -84,12 +84,12 @@ loop-again c =
     let one-is = one-pair (loop .k) (a .list .now) in
     let said = one .ensures .1 ∙ ap (λ (l : List Pair). consistent (lent s) (loop .store) (without l (a .skip))) one-is in
     let fits = ⊎-elim
-        (λ w. w .1 ∙ sym (and-false (loop .fits)) ∙ ap (λ (b : Bool). loop .fits && b) (sym (not-true (one .result) (w .0 .taken)) ∙ said))
-        (λ w. w .1 ∙ sym (and-true (loop .fits)) ∙ ap (λ (b : Bool). loop .fits && b) (sym (not-false (one .result) (w .0 .left)) ∙ said))
-        (c .if1 .came) in (
+    (λ w. w .1 ∙ sym (and-false (loop .fits)) ∙ ap (λ (b : Bool). loop .fits && b) (sym (not-true (one .result) (w .0 .taken)) ∙ said))
+    (λ w. w .1 ∙ sym (and-true (loop .fits)) ∙ ap (λ (b : Bool). loop .fits && b) (sym (not-false (one .result) (w .0 .left)) ∙ said))
+    (c .if1 .came) in (
       omega arith,
       rw (one .ensures .0, one-is)
-      (refiling-next (lent s) (s .pre .0) (s .pre .1 .0) (a .skip) (pairs (a .count) (a .list .now)) _ _ _ _ _ (turn r) (c .if1 .fits) fits),
+          (refiling-next (lent s) (s .pre .0) (s .pre .1 .0) (a .skip) (pairs (a .count) (a .list .now)) _ _ _ _ _ (turn r) (c .if1 .fits) fits),
     )
 
 same-length : tie.Need-same-length Inv-loop μ-loop
@@ -103,7 +103,7 @@ returns c =
     let a = s .args in
     let loop = c .before .loop in
     refiling-end (lent s) (s .pre .0) (s .pre .1 .0) (a .skip) (pairs (a .count) (a .list .now)) (emptyStore (a .plan)) (loop .store) (loop .fits)
-        (subst (Refiling (lent s) (a .skip) (emptyStore (a .plan)) (pairs (a .count) (a .list .now)) (loop .store) (loop .fits)) (rest-none (a .count) (loop .k) (a .list .now) (omega arith)) (loop .inv .1))
+    (subst (Refiling (lent s) (a .skip) (emptyStore (a .plan)) (pairs (a .count) (a .list .now)) (loop .store) (loop .fits)) (rest-none (a .count) (loop .k) (a .list .now) (omega arith)) (loop .inv .1))
 
 pub refile-spec : {M : Type 1} → statement M
 refile-spec =
