@@ -28,6 +28,7 @@ use Rattle.store.specs.Calls.{emptyStore, outcomeOf, answered, filed}
 use Rattle.store.proofs.Readiness.{empty-ready, filed-ready}
 use Rattle.ledger.specs.Lists.{Pair, without, filedOn, accepts}
 use Rattle.ledger.specs.Stages.{pairsFrom, ranged, consistent, isRefused}
+use Rattle.ledger.proofs.Rests.{and-regroup}
 
 pub one-pair : (k : ℕ) (list : List ℕ) → pairsFrom 1 k list ≡ (at list (2 * k), at list (2 * k + 1)) ∷ []
 unfolding pairsFrom
@@ -37,10 +38,6 @@ pub says-refused : (o : Outcome) → isRefused (answered o) ≡ isContradiction 
 says-refused (new c) = refl
 says-refused implied = refl
 says-refused contradiction = refl
-
-and-regroup : (a b c : Bool) → (a && (b && c)) ≡ ((a && b) && c)
-and-regroup true b c = refl
-and-regroup false b c = refl
 
 module _ (G : Given) (skip : ℕ) (S : List ℕ) (x : Pair) where
   pub left-out : x .0 ≡ skip → (filedOn G S (without (x ∷ []) skip) ≡ S) × (consistent G S (without (x ∷ []) skip) ≡ true)

@@ -4,6 +4,7 @@
 --     place-next, place-found, place-none       the place of an entry, as `find` goes on
 --     well                      each entry and value in range, no entry twice, and none of them marked: what `well_listed` still has to tell
 --     well-start, well-next, well-high, well-value, well-marked, well-none       as it goes on, and as it stops
+--     and-regroup               a law of `&&`
 -- Assumes nothing.
 use mathlib.Core.Path.{_≡_, refl, sym, ap}
 use mathlib.Core.Bool.{Bool, true, false, not, _&&_, and-false}
@@ -19,6 +20,10 @@ use borrow.Author.Tests.{eq-eqb, ne-eqb, le-ltb, lt-ltb}
 use Rattle.lists.specs.Places.{at}
 use Rattle.ledger.specs.Lists.{Pair, has, distinct, placeOf}
 use Rattle.ledger.specs.Stages.{pairsFrom, pairs, ranged, unseen}
+
+pub and-regroup : (a b c : Bool) → (a && (b && c)) ≡ ((a && b) && c)
+and-regroup true b c = refl
+and-regroup false b c = refl
 
 abbrev pub rest : ℕ → ℕ → List ℕ → List Pair
 rest count k list = pairsFrom (count - k) k list
@@ -76,12 +81,8 @@ unfolding unseen has
 marked marks i [] h = refl
 marked marks i (x ∷ l) h = elim (ℕ-discrete (x .0) i) [
   | yes e ↦ rw (e, getD-set-same marks i 1 0 h, eq-eqb i i refl) (sym (and-false (eqb (at marks i) 0 && unseen marks l)))
-  | no d ↦ rw (getD-set-other marks i (x .0) 1 0 d, ne-eqb (x .0) i d, marked marks i l h) (regroup (eqb (at marks (x .0)) 0) (unseen marks l) (not (has l i)))
+  | no d ↦ rw (getD-set-other marks i (x .0) 1 0 d, ne-eqb (x .0) i d, marked marks i l h) (and-regroup (eqb (at marks (x .0)) 0) (unseen marks l) (not (has l i)))
 ]
-  where
-    regroup : (a b c : Bool) → (a && (b && c)) ≡ ((a && b) && c)
-    regroup true b c = refl
-    regroup false b c = refl
 
 module _ (n s : ℕ) (marks : List ℕ) (x : Pair) (l : List Pair) where
   pub well-high : n ≤ x .0 → well n s marks (x ∷ l) ≡ false
@@ -100,11 +101,7 @@ module _ (n s : ℕ) (marks : List ℕ) (x : Pair) (l : List Pair) where
   unfolding ranged unseen distinct
   well-next h g room e =
       rw (lt-ltb (x .0) n h, lt-ltb (x .1) s g, eq-eqb (at marks (x .0)) 0 e, marked marks (x .0) l (omega arith))
-      (regroup (ranged n s l) (unseen marks l) (not (has l (x .0))) (distinct l))
-    where
-      regroup : (a b c d : Bool) → (a && (b && (c && d))) ≡ (a && ((b && c) && d))
-      regroup a true c d = refl
-      regroup a false c d = refl
+      (ap (λ (b : Bool). ranged n s l && b) (and-regroup (unseen marks l) (not (has l (x .0))) (distinct l)))
 
 pub well-none : (n s : ℕ) (marks : List ℕ) → well n s marks [] ≡ true
 unfolding ranged unseen distinct

@@ -1,10 +1,11 @@
--- 02, C-18: the calls with records: what each answers and leaves, and the causes it can meet, in number order. Stands on `Lists`, and on the
--- records of `records`.
---     Filled                     what is handed from call to call: the store, the records and their count
+-- 02, C-18: the calls with records: what each answers and leaves, and the causes it can meet, in the order in which they are tested. Stands on
+-- `Lists`, and on the records of `records`.
+--     Filled, filled             what is handed from call to call: the store, the records and their count; the one of these three
+--     pairOf r                   a record's entry and value
 --     listed F                   the first count records, as pairs
 --     listCause, absentCause     16, and 17, "when the withdrawn entry isn't listed"
 --     recordOwn, withdrawOwn     each call's own causes, of the listed pairs l: 6 16 7 8 9, and 6 16 7 17
---     lentOwn                    its own parts: the store, the work store, so many records and the count
+--     lentOwn, ownOf             its own parts: the store, the work store, so many records and the count; those of F
 --     recordCauses               filing with records: 1 2 3 4 5 6 16 7 8 9
 --     withdrawCauses             withdrawing: 1 2 3 4 5 6 16 7 17
 --     joined G F i v             what filing leaves: "an accepted entry not yet listed joins its end with its value", and the count is then one more

@@ -5,7 +5,7 @@
 --     unseen marks l         no entry of l is marked, as a test
 --     consistent G S l       no pair is a contradiction when they are filed in order on the store S, as a test
 --     isRefused a            an answer is a refusal, as a test
---     recordRefusal, withdrawRefusal     the call's own refusal, of the listed pairs l
+--     recordRefusal, withdrawRefusal     the call's refusal, by all its causes
 --     answerSound, storeSound    what filing answers and leaves where the call is admitted
 --     countAfter, placeAfter     the count after filing, and where the entry joins the list; size, which is no place, where it is listed
 --     placed, takenBy        what is left to do of the records: a record to be put at a place, or one to be removed

@@ -62,7 +62,7 @@ pub fn put(records: &mut [Record], at: usize, entry: u16, value: u16)
     }
 }
 
-// The same, and nothing where there is no such record.
+// Of the first `count` records the one at a place is removed, as `remove` does it; nothing where there is none.
 pub fn remove_at(records: &mut [Record], count: usize, at: usize)
     ensures { λ _. ⌜ now (records .exit) ≡ removedAt (now (records .entry)) count at ⌝ }
 {
