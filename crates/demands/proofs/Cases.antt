@@ -21,6 +21,7 @@ use Rattle.store.specs.declared.settling.Settled.the-variants.{Forced, Free}
 use Rattle.store.specs.Settled as settling
 use Rattle.store.specs.Settled.{standing, settleAnswer}
 use Rattle.store.specs.Reading.{State, stateOf, rowSound, counted, stateAfter, isDamaged, rowOf}
+use Rattle.moves.specs.FullRows.{fullAfter}
 use Rattle.moves.specs.Moves.{fullFlat, halved, widened, toHalfCauses, toFullCauses, fullFileAnswer, fullFileStore}
 use Rattle.program.specs.Steps.{tableAt, goodStep, wellFormed, assigned, stepped, registers, bootstraps, output}
 use Rattle.program.specs.Layout.{adds, linkSteps, productSteps, layout, stepCount}
@@ -187,7 +188,7 @@ settled-entries =
 
 -- a store of two columns, modulo 3: three bytes of row 0 and two of row 1. Its state after some rows, and what that says after the last
 abbrev pub state : List ℕ → ℕ → State
-state store = stateAfter 3 2 (rowOf false 2 store)
+state store = stateAfter 3 2 (rowOf 2 store)
 
 abbrev pub damaged : List ℕ → Bool
 damaged store = isDamaged 3 (state store 2)
@@ -211,9 +212,16 @@ pub record Read : Type 0 where
   -- one that only the state tells after the last row: each row is sound, and p is on the right
   pub right-hand-state : state (1 ∷ 0 ∷ 3 ∷ 1 ∷ 0 ∷ []) 2 ≡ stateOf true (3 ∷ [])
   pub right-hand-side : damaged (1 ∷ 0 ∷ 3 ∷ 1 ∷ 0 ∷ []) ≡ true
+  -- a row that is not zero and has nothing on its diagonal counts in no column
+  pub not-counted : state (0 ∷ 2 ∷ 1 ∷ 0 ∷ 0 ∷ []) 1 ≡ stateOf false (0 ∷ 0 ∷ [])
+  -- whole rows, of the layout before: the same states, and something left of a diagonal, alone and beside a pivot
+  pub whole-one-row : fullAfter 3 2 (1 ∷ 2 ∷ 1 ∷ 0 ∷ 0 ∷ 0 ∷ []) 1 ≡ stateOf true (2 ∷ 1 ∷ [])
+  pub whole-two-rows : fullAfter 3 2 (1 ∷ 2 ∷ 1 ∷ 0 ∷ 0 ∷ 0 ∷ []) 2 ≡ stateOf true (1 ∷ [])
+  pub left-alone : fullAfter 3 2 (1 ∷ 0 ∷ 2 ∷ 1 ∷ 0 ∷ 0 ∷ []) 2 ≡ stateOf false (2 ∷ [])
+  pub left-of-a-pivot : fullAfter 3 2 (1 ∷ 0 ∷ 2 ∷ 1 ∷ 1 ∷ 0 ∷ []) 2 ≡ stateOf false (2 ∷ [])
 
 pub read : Read
-unfolding stateAfter rowSound counted isDamaged rowStart sum every tab
+unfolding stateAfter fullAfter rowSound counted isDamaged rowStart sum every tab
 read =
     record {
       begun = refl;
@@ -230,6 +238,11 @@ read =
       no-residue = refl;
       right-hand-state = refl;
       right-hand-side = refl;
+      not-counted = refl;
+      whole-one-row = refl;
+      whole-two-rows = refl;
+      left-alone = refl;
+      left-of-a-pivot = refl;
     }
 
 -- the causes of the moves under the plan L, of two columns: six bytes in the layout before, five in the new one

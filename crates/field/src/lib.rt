@@ -5,6 +5,7 @@
 mod primes;
 mod residues;
 mod rows;
+mod zeros;
 
 pub use primes::is_odd_prime;
 pub use residues::cell;
@@ -19,5 +20,7 @@ pub use rows::copy;
 pub use rows::dot;
 pub use rows::pour;
 pub use rows::raise;
+pub use rows::raise_row;
 pub use rows::reduce;
 pub use rows::set_multiple;
+pub use zeros::all_zero;

@@ -156,6 +156,33 @@ pub fn raise(tops: &mut [u8], xs: &[u8])
     }
 }
 
+// The same for a row of a store, cut into pieces of 64, 16 and 4 bytes from its end, what is left in front byte by byte. A loop of so many turns
+// becomes a few vector instructions without a remainder; and every row of a store ends in the same column, so what one row stores is loaded in the
+// same pieces by the next.
+pub fn raise_row(tops: &mut [u8], xs: &[u8])
+    requires { ⌜ length (now xs) ≡ length (now tops) ⌝ }
+    ensures { λ _. ⌜ now (tops .exit) ≡ specs.maxima (now (tops .entry)) (now (xs .entry)) ⌝ }
+{
+    let n = tops.len();
+    let mut j = n % 4;
+    raise(&mut tops[..j], &xs[..j]);
+    while (n - j) % 16 != 0 {
+        let e = j + 4;
+        raise(&mut tops[j..e], &xs[j..e]);
+        j = e;
+    }
+    while (n - j) % 64 != 0 {
+        let e = j + 16;
+        raise(&mut tops[j..e], &xs[j..e]);
+        j = e;
+    }
+    while j < n {
+        let e = j + 64;
+        raise(&mut tops[j..e], &xs[j..e]);
+        j = e;
+    }
+}
+
 // The bytes of xs, into out.
 pub fn copy(out: &mut [u8], xs: &[u8])
     requires { ⌜ length (now xs) ≡ length (now out) ⌝ }

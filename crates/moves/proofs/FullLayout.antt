@@ -1,6 +1,6 @@
 -- The layout before C-16, and that a store moved from one layout to the other and back is the same.
 --     cells-full, full-cells, full-ext      its bytes and their reading are each other's inverse, and depend on the places alone
---     full-length                     the bytes are C rows of C + 1
+--     full-length, full-end           the bytes are C rows of C + 1, and a row ends within them
 --     halved-widened, widened-halved  moved and back; an old store must be in reduced form, for what lies left of a diagonal is not kept
 --     stands-for                      a new store is in reduced form exactly when the old one that it stands for is
 --     zeros-halved                    the empty store, moved, is the empty store
@@ -9,7 +9,7 @@ use mathlib.Core.Path.{_≡_, sym, ap, ap₂, _∙_}
 use mathlib.Core.Logic.{_↔_}
 use mathlib.Core.List.{List}
 use Prim.Native.Nat.{ℕ, _+_, _*_, _/_, _%_, _≤_, _<_}
-use native.Mathlib.Nat.{mod-lt, div-add-mod', div-lt-iff-lt-mul}
+use native.Mathlib.Nat.{mod-lt, mul-le-mul-right, div-add-mod', div-lt-iff-lt-mul}
 use native.Mathlib.Omega.{arith}
 use lib.Arith.{digits-lt, digits-div, digits-mod}
 use lib.ListN.{length, replicate, length-replicate}
@@ -25,6 +25,10 @@ use Rattle.store.proofs.ReducedForm.{reduced-ext, flat-reads}
 pub full-length : (C : ℕ) (S : ℕ → ℕ → ℕ) → length (fullFlat C S) ≡ fullSize C
 unfolding fullFlat
 full-length C S = tab-length (fullSize C) (λ k. S (k / (C + 1)) (k % (C + 1)))
+
+pub full-end : (C q : ℕ) → q < C → q * (C + 1) + (C + 1) ≤ fullSize C
+unfolding fullSize
+full-end C q l = let l′ : q + 1 ≤ C = omega arith in omega (arith, mul-le-mul-right (C + 1) l′)
 
 pub cells-full : (C : ℕ) (S : ℕ → ℕ → ℕ) (q j : ℕ) → q < C → j ≤ C → fullCells C (fullFlat C S) q j ≡ S q j
 unfolding fullFlat fullSize

@@ -7,7 +7,7 @@
 use mathlib.Core.Path.{_≡_, refl, sym, ap, ap₂, _∙_}
 use mathlib.Core.List.{List, _++_, append-nil}
 use Prim.Native.Nat.{ℕ, _+_, _-_, _*_, _≤_, _<_}
-use native.Mathlib.Nat.{add-sub-cancel-left, mul-le-mul-right, zero-mul}
+use native.Mathlib.Nat.{add-sub-cancel-left, zero-mul}
 use native.Mathlib.Decide.{decLt}
 use native.Mathlib.Omega.{arith}
 use lib.ListN.{length, take, drop, replicate, length-append, length-drop, length-replicate, drop-of-length-le, List·getD-append}
@@ -21,7 +21,7 @@ use Rattle.store.specs.Elimination.{rowStart, cells}
 use Rattle.moves.specs.Moves.{fullCells, halved, widened}
 use Rattle.store.proofs.RowStarts.{start-zero, start-next, start-last, row-end}
 use Rattle.store.proofs.Bytes.{cells-left, cells-right, flat-length, flat-at}
-use Rattle.moves.proofs.FullLayout.{full-length, cells-full}
+use Rattle.moves.proofs.FullLayout.{full-length, full-end, cells-full}
 
 -- a row of the old layout, as the code writes it: zs over its first q places, then ys over the rest
 pub row-joined : (xs zs ys : List ℕ) (q : ℕ) → q ≤ length xs → zs ≡ replicate (length (take q xs)) 0
@@ -39,11 +39,6 @@ row-joined xs zs ys q l h =
 -- a list is what stands at its places
 all-places : (xs : List ℕ) (n : ℕ) → length xs ≡ n → tab n (at xs) ≡ xs
 all-places xs n e = sym (is-tab xs n (at xs) 0 e (λ i l. refl))
-
--- an old row ends within the store
-full-end : (C q : ℕ) → q < C → q * (C + 1) + (C + 1) ≤ fullSize C
-unfolding fullSize
-full-end C q l = let l′ : q + 1 ≤ C = omega arith in omega (arith, mul-le-mul-right (C + 1) l′)
 
 pub record Halving (C : ℕ) (full before : List ℕ) (q from to : ℕ) (half : List ℕ) : Type 0 where
   pub within : q ≤ C

@@ -17,10 +17,10 @@ pub mod Holding
 pub mod Fronts
 pub mod Pasting
 pub mod SoundRows
-pub mod RowStates
 pub mod RowTests
+pub mod RowStates
 pub mod OneReading
-pub mod Layouts
+pub mod HalfReading
 pub mod TakingRows
 pub mod Multiples
 pub mod Deferring

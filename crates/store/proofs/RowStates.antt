@@ -25,6 +25,7 @@ use Rattle.field.proofs.Ranges.{residues-of, below-of, maxima-none}
 use Rattle.store.specs.Elimination.{ZeroRow}
 use Rattle.store.specs.Reading.{State, rowSound, counted, took}
 use Rattle.store.proofs.SoundRows.{Sound}
+use Rattle.store.proofs.RowTests.{counted-length}
 
 -- which side of a test held
 sides : (b x y : Bool) → cond b x y ≡ true → ((b ≡ true) × (x ≡ true)) ⊎ ((b ≡ false) × (y ≡ true))
@@ -106,11 +107,7 @@ module _ (p C : ℕ) (S : ℕ → ℕ → ℕ) where
         (λ o. rw (ne-eqb (at row 0) 0 (λ e. omega (arith, diagonal, o .0)))) v
 
     width : length (counted (s .tops) row) ≡ C + 1 - q
-    unfolding counted
-    width = elim (ℕ-discrete (at row 0) 0) [
-      | yes e ↦ rw (eq-eqb (at row 0) 0 e) (w .places)
-      | no d ↦ rw (ne-eqb (at row 0) 0 d) (tab-length (length (s .tops)) (λ j. max (at (s .tops) j) (at row j)) ∙ w .places)
-    ]
+    width = counted-length (s .tops) row ∙ w .places
 
     -- column q + 1 + i
     column : Sound p C S q → (i : ℕ) → q + 1 + i ≤ C → at (drop 1 (counted (s .tops) row)) i ≡ max (at (s .tops) (1 + i)) (S q (q + (1 + i)))

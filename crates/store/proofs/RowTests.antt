@@ -1,42 +1,50 @@
--- What the test of one row comes to in the code, by what stands on its diagonal. Rows that have nothing there are looked at later, with what
--- follows them.
---     asked      the row asked, with the bytes not looked at yet before it and after it: sound as `took` says
+-- What `took` comes to in the code, by what stands on a row's diagonal.
+--     took-none          with nothing there: no column is counted, and the row is sound when it is all zero, with residues above
+--     took-pivot         with something there: its columns are counted, and it is sound when that is a 1, with nothing above
+--     counted-length     a row leaves as many columns as there were
 -- Assumes nothing.
-use mathlib.Core.Path.{_≡_, refl, sym, ap, _∙_}
-use mathlib.Core.Bool.{Bool, true, false, cond, _&&_, and-true, and-false}
+use mathlib.Core.Path.{_≡_, refl, sym, ap, ap₂, _∙_}
+use mathlib.Core.Bool.{Bool, true, false, cond, _&&_, and-false}
+use mathlib.Core.Logic.{_≢_}
 use mathlib.Core.List.{List}
-use Prim.Native.Nat.{ℕ, _≤_, _<_}
+use Prim.Native.Nat.{ℕ, _≤_, _<_, max}
 use native.Mathlib.Decide.{ℕ-discrete}
 use native.Mathlib.Omega.{arith}
 use lib.Dec.{eqb, ltb}
-use lib.ListN.{length}
+use lib.ListN.{length, drop}
 use borrow.Author.Tests.{eq-eqb, ne-eqb}
 use Rattle.lists.specs.Places.{at}
-use Rattle.field.specs.Rows.{allBelow}
+use Rattle.lists.proofs.Tests.{and-assoc}
+use Rattle.lists.proofs.Tabs.{tab-length}
+use Rattle.field.specs.Rows.{allBelow, maxima}
 use Rattle.field.proofs.Ranges.{below-none}
-use Rattle.store.specs.Reading.{rowSound, soundSoFar}
+use Rattle.store.specs.Reading.{stateOf, rowSound, counted, took}
 
-unled : (a x s unread zero : Bool) → ((a && s) && (unread && zero)) ≡ (cond zero a (x && false) && (s && unread))
-unled true x s unread true = ap (λ (b : Bool). s && b) (and-true unread)
-unled false x s unread true = refl
-unled a x s unread false = ap (λ (b : Bool). (a && s) && b) (and-false unread) ∙ and-false (a && s) ∙ sym (ap (λ (b : Bool). b && (s && unread)) (and-false x))
+-- `new` and `r` are the columns and the verdict that come out
+module _ (p : ℕ) (sound r : Bool) (tops new row : List ℕ) where
+  tells : (a b : Bool) → new ≡ counted tops row → rowSound p (at tops 0) row ≡ (a && b) → r ≡ (a && (b && sound))
+      → (stateOf r (drop 1 new) ≡ took p (stateOf sound tops) row) × (new ≡ counted tops row)
+  tells a b columns verdict e = (ap₂ stateOf (e ∙ sym (and-assoc a b sound) ∙ ap (λ (t : Bool). t && sound) (sym verdict)) (ap (drop 1) columns), columns)
 
-led : (x s unread : Bool) → ((x && (unread && s)) && true) ≡ (x && (s && unread))
-led true true unread = and-true (unread && true) ∙ and-true unread
-led true false unread = and-true (unread && false) ∙ and-false unread
-led false s unread = refl
+  pub took-none : at row 0 ≡ 0 → new ≡ tops → r ≡ (allBelow 1 row && (ltb (at tops 0) p && sound))
+      → (stateOf r (drop 1 new) ≡ took p (stateOf sound tops) row) × (new ≡ counted tops row)
+  unfolding counted rowSound
+  took-none z same = tells (allBelow 1 row) (ltb (at tops 0) p) (same ∙ rw z) (rw z (split (allBelow 1 row) (ltb (at tops 0) p) (eqb (at tops 0) 0)))
+    where
+      split : (zero a x : Bool) → cond zero a (x && false) ≡ (zero && a)
+      split true a x = refl
+      split false a x = and-false x
 
--- `unread′` are the bytes not looked at behind the row
-pub asked : (p above : ℕ) (sound : Bool) (unread row unread′ : List ℕ) → 0 < length row
-    → allBelow 1 unread′ ≡ cond (eqb (at row 0) 0) (allBelow 1 unread && allBelow 1 row) true
-    → (soundSoFar p sound above unread row && allBelow 1 unread′) ≡ (rowSound p above row && (sound && allBelow 1 unread))
-unfolding soundSoFar rowSound
-asked p above sound unread row unread′ l h = elim (ℕ-discrete (at row 0) 0) [
-  | yes z ↦
-      let behind : allBelow 1 unread′ ≡ (allBelow 1 unread && allBelow 1 row) = h ∙ rw (eq-eqb (at row 0) 0 z) in
-      rw (behind, z) (unled (ltb above p) (eqb above 0) sound (allBelow 1 unread) (allBelow 1 row))
-  | no d ↦
+  pub took-pivot : 0 < length row → at row 0 ≢ 0 → new ≡ maxima tops row → r ≡ (eqb (at tops 0) 0 && (eqb (at row 0) 1 && sound))
+      → (stateOf r (drop 1 new) ≡ took p (stateOf sound tops) row) × (new ≡ counted tops row)
+  unfolding counted rowSound
+  took-pivot l d raised =
       let some : 1 ≤ at row 0 = omega arith in
-      let behind : allBelow 1 unread′ ≡ true = h ∙ rw (ne-eqb (at row 0) 0 d) in
-      rw (behind, ne-eqb (at row 0) 0 d, below-none 1 row 0 l some) (led (eqb above 0 && eqb (at row 0) 1) sound (allBelow 1 unread))
+      tells (eqb (at tops 0) 0) (eqb (at row 0) 1) (raised ∙ rw (ne-eqb (at row 0) 0 d)) (rw (below-none 1 row 0 l some))
+
+pub counted-length : (tops row : List ℕ) → length (counted tops row) ≡ length tops
+unfolding counted
+counted-length tops row = elim (ℕ-discrete (at row 0) 0) [
+  | yes z ↦ rw (eq-eqb (at row 0) 0 z)
+  | no d ↦ rw (ne-eqb (at row 0) 0 d) (tab-length (length tops) (λ j. max (at tops j) (at row j)))
 ]

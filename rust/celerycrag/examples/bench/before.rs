@@ -4,7 +4,7 @@
 use crate::builds::Build;
 use crate::plans::Case;
 use crate::settling::{first_tenth, free_entries};
-use crate::timing::{calls, least, nanoseconds, race_by_depth, shown, Contender, DEPTHS};
+use crate::timing::{calls, least, mean, nanoseconds, race_by_depth, shown, Contender, DEPTHS};
 use celerycrag::{Filed, Plan, Store};
 use std::hint::black_box;
 
@@ -39,6 +39,16 @@ impl Builds {
         let before = Build::open("CELERYCRAG_BEFORE")?;
         let library = Build::open("CELERYCRAG_LIBRARY");
         Some(Builds([before, library.expect("CELERYCRAG_LIBRARY")]))
+    }
+
+    /// The build before.
+    pub fn before(&self) -> &Build {
+        &self.0[0]
+    }
+
+    /// The library, linked as the build before is.
+    pub fn library(&self) -> &Build {
+        &self.0[1]
     }
 
     /// The lines of a plan, given the store of its whole table.
@@ -187,7 +197,6 @@ fn line(plan: &Plan, rounds: usize, (call, filed, contenders): Race) -> String {
         let times = library / before;
         format!("{} | {} | {times:.2}", shown(before), shown(library))
     };
-    let mean = |depths: [f64; DEPTHS]| depths.iter().sum::<f64>() / DEPTHS as f64;
     let (columns, p) = (plan.columns(), plan.shape().p);
     let (least, mean) = (pair(least), pair(mean));
     format!("| {call} | {columns} | {p} | {filed} | {least} | {mean} |")

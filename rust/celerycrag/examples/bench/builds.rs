@@ -49,6 +49,7 @@ macro_rules! call {
 pub struct Build {
     /// Whether its stores have C rows of C + 1 bytes, as they had before 02, C-16.
     full: bool,
+    check: call_of!(),
     test: call_of!(*const u8, usize),
     file: call_of!(*mut u8, usize, usize, usize, *mut usize),
     coefficients: call_of!(*const u8, usize, *mut u8, usize),
@@ -93,6 +94,7 @@ impl Build {
         unsafe {
             Some(Build {
                 full: !object.has(c"celery_to_half"),
+                check: object.get(c"celery_check"),
                 test: object.get(c"celery_test"),
                 file: object.get(c"celery_file"),
                 coefficients: object.get(c"celery_coefficients"),
@@ -116,6 +118,10 @@ impl Build {
             false => Store::from_bytes(plan, bytes.to_vec()),
         };
         store.expect("a store of filings")
+    }
+
+    pub fn check(&self, plan: Lent) -> u8 {
+        call!((self.check), plan,)
     }
 
     pub fn test(&self, plan: Lent, store: &[u8]) -> u8 {

@@ -5,6 +5,7 @@
 //!
 //!     cargo run --release --example bench -- 256
 
+mod alone;
 mod before;
 mod builds;
 mod calls;
@@ -112,6 +113,14 @@ fn main() {
         }
     }
 
+    let builds = Builds::open();
+    println!("\n## The store test alone\n\n{}", alone::INTRODUCTION);
+    for case in alone::cases(most) {
+        for line in alone::lines(&case, builds.as_ref()) {
+            println!("{line}");
+        }
+    }
+
     println!("\n## Moving\n\n{}", moving::INTRODUCTION);
     for line in stores.iter().flat_map(moving::lines) {
         println!("{line}");
@@ -141,7 +150,7 @@ fn main() {
         println!("{}", reading::line(&plan, &beta));
     }
 
-    if let Some(builds) = Builds::open() {
+    if let Some(builds) = builds {
         println!(
             "\n## The calls on a store beside the landing before\n\n{}",
             before::INTRODUCTION

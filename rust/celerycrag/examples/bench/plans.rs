@@ -19,7 +19,7 @@ impl Case {
     /// A random plan with these radices. The table is that of the first link,
     /// whose values are bits: some β reproduces it, whatever the rest of the
     /// plan.
-    fn new(p: usize, radices: &[u8], m: usize, t: usize) -> Case {
+    pub fn new(p: usize, radices: &[u8], m: usize, t: usize) -> Case {
         let n = radices.len();
         let random = &mut SplitMix((p * n) as u64);
         let weights = bytes(random, (0..m).map(|k| n + k).sum(), p);

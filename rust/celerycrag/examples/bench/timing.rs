@@ -87,6 +87,11 @@ pub fn least(by_depth: [f64; DEPTHS]) -> f64 {
     by_depth.into_iter().fold(f64::INFINITY, f64::min)
 }
 
+/// The mean of all depths.
+pub fn mean(by_depth: [f64; DEPTHS]) -> f64 {
+    by_depth.into_iter().sum::<f64>() / DEPTHS as f64
+}
+
 /// Nanoseconds for a reader.
 pub fn shown(nanoseconds: f64) -> String {
     let (number, unit) = match nanoseconds {

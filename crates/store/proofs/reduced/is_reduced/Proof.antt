@@ -1,14 +1,11 @@
--- `store::reduced::is_reduced` meets its contract: that the state says so is reduced form (`Layouts`). Assumes nothing.
+-- `store::reduced::is_reduced` meets its contract: that the state says so is reduced form (`HalfReading`). Assumes nothing.
 use mathlib.Core.Path.{_∙_}
-use mathlib.Core.Bool.{false≢true}
-use Rattle.store.proofs.Layouts.{half-tested}
+use Rattle.store.proofs.HalfReading.{half-tested}
 use Rattle.store.proofs.reduced.is_reduced.Statement.{statement}
 use Rattle.store.proofs.reduced.is_reduced.Tie as tie
 
 passes-requires : tie.Need-passes-requires
-passes-requires c κs =
-    let pre = c .before .pre in
-    (pre .0, (pre .1 .1, λ e. absurd (false≢true e)))
+passes-requires c κs = (c .before .pre .0, c .before .pre .1 .1)
 
 returns : tie.Need-returns
 returns c =

@@ -1,17 +1,13 @@
--- `store::reduced::passes` meets its contract: the local array begins as zeros, and the state after the last row is asked. Assumes nothing.
-use mathlib.Core.Path.{sym, ap, _∙_}
-use mathlib.Core.Bool.{Bool·not-not}
-use Prim.Native.Nat.{ℕ, _+_}
-use native.Mathlib.Nat.{add-zero}
+-- `store::reduced::passes` meets its contract: the local array begins as zeros, and the state after the last row is asked (`TakingRows`).
+-- Assumes nothing.
+use mathlib.Core.Path.{sym}
+use Prim.Native.Nat.{_+_}
 use native.Mathlib.Omega.{arith}
-use lib.Dec.{ltb}
-use lib.ListN.{drop, List·getD-append}
-use lib.Seq.{length-take-le, getD-drop}
+use lib.Seq.{length-take-le}
 use borrow.Author.Needs.{needs}
 use borrow.Author.Tests.{not-true, not-false}
-use Rattle.lists.specs.Places.{at}
 use Rattle.lists.proofs.Parts.{zeros-front}
-use Rattle.store.specs.Reading.{isDamaged}
+use Rattle.store.proofs.TakingRows.{unsound-said, last-asked}
 use Rattle.store.proofs.reduced.passes.Statement.{statement}
 use Rattle.store.proofs.reduced.passes.Tie as tie
 
@@ -27,27 +23,22 @@ slice-aggregate-take-rows c = sym (length-take-le (c .before .before .args .c + 
 take-rows-requires : tie.Need-take-rows-requires
 take-rows-requires c κs =
     let start = c .before .before in
-    (start .pre .0, (start .pre .1 .0, (start .pre .1 .1, zeros-front 1032 (start .args .c + 1) (omega arith))))
+    (start .pre .0, (start .pre .1, zeros-front 1032 (start .args .c + 1) (omega arith)))
 
 returns : tie.Need-returns
-unfolding isDamaged
 returns c =
+    let args = c .before .before .before .before .before .args in
     let rows = c .before .before .take-rows in
-    rw (sym (rows .ensures .1), not-true (rows .result) (c .if1 .taken))
+    unsound-said (args .p) (args .c) (rows .result) (rows .last .0) _ (rows .ensures .1) (not-true (rows .result) (c .if1 .taken))
 
 array-read-result : tie.Need-array-read-result
 array-read-result c = search needs
 
 returns-2 : tie.Need-returns-2
-unfolding isDamaged
 returns-2 c =
-    let rows = c .before .before .take-rows in
     let args = c .before .before .before .before .before .args in
-    let tops = rows .last .0 in
-    let last = List·getD-append tops _ 0 (args .c) (omega (arith, rows .ensures .0)) ∙ ap (at tops) (sym (add-zero (args .c))) ∙ sym (getD-drop (args .c) tops 0 0) in
-    ap (λ (n : ℕ). ltb n (args .p)) last
-    ∙ sym (Bool·not-not (ltb (at (drop (args .c) tops) 0) (args .p)))
-    ∙ rw (sym (rows .ensures .1), not-false (rows .result) (c .if1 .left))
+    let rows = c .before .before .take-rows in
+    last-asked (args .p) (args .c) (rows .result) (rows .last .0) _ (rows .ensures .1) _ (rows .ensures .0) (not-false (rows .result) (c .if1 .left))
 
 pub passes-spec : {M : Type 1} → statement M
 passes-spec =
