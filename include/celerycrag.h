@@ -405,8 +405,7 @@ uint8_t celery_general(CELERY_PLAN, uint8_t *work, size_t work_len,
  *          values do not matter.
  * Causes:  1 2 3 4 5, 6. Each of the two lengths is tested (4).
  * Writes:  all of half.
- * Cost:    what lies left of column q in each row q is read first, row 0 first,
- *          up to a row that has something there; then all else, to its end also
+ * Cost:    the test reads each row of full once, row 0 first, to the end also
  *          where it is damaged; then a copy of half's length.
  */
 uint8_t celery_to_half(CELERY_PLAN, const uint8_t *full, size_t full_len,

@@ -2,7 +2,7 @@
 --     part-length, cut-length, part-at       the part's length, and what stands at a place of it
 --     part-each                              what each place of a list has, and 0 too, each place of a part of it has
 --     at-past                                past its end a list reads as 0
---     all-zero, zeros-at, zeros-front        a list of zeros reads as 0 everywhere, and its front is a list of zeros
+--     all-zero, zeros-at, zeros-part, zeros-front      a list of zeros reads as 0 everywhere, and a part of it, or its front, is a list of zeros
 -- Assumes nothing.
 use mathlib.Core.Path.{_≡_, ap, _∙_}
 use mathlib.Core.List.{List}
@@ -43,7 +43,10 @@ all-zero n xs z k = elim (decLt k n) [
 pub zeros-at : (n k : ℕ) → at (replicate n 0) k ≡ 0
 zeros-at n = all-zero n (replicate n 0) (is-tab (replicate n 0) n (λ _. 0) 0 (length-replicate n 0) (λ i l. getD-replicate n i 0 0 l))
 
+pub zeros-part : (m a n : ℕ) → a + n ≤ m → take {A = ℕ} n (drop a (replicate m 0)) ≡ tab n (λ _. 0)
+zeros-part m a n h =
+    is-tab (take n (drop a (replicate m 0))) n (λ _. 0) 0 (part-length (replicate m 0) a n (rw length-replicate h))
+    (λ i l. part-at (replicate m 0) a n i l ∙ zeros-at m (a + i))
+
 pub zeros-front : (m n : ℕ) → n ≤ m → take {A = ℕ} n (replicate m 0) ≡ tab n (λ _. 0)
-zeros-front m n h =
-    is-tab (take n (replicate m 0)) n (λ _. 0) 0 (length-take-le n (replicate m 0) (rw length-replicate h))
-    (λ i l. getD-take n (replicate m 0) i 0 l ∙ zeros-at m i)
+zeros-front m n h = zeros-part m 0 n (omega arith)

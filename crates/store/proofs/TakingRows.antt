@@ -2,7 +2,7 @@
 --     Taken                                  before each turn: the state after the rows taken
 --     taken-none, taken-next, taken-all      before the first row; one row more; after the last
 --     columns-lent                           how many columns are lent with a row
---     unsound-said, last-asked               what the state then says, asked of an array that begins with the columns
+--     unsound-said, last-asked               what the state then says, asked of an array that holds the columns
 -- Assumes nothing.
 use mathlib.Core.Path.{_≡_, sym, ap, _∙_}
 use mathlib.Core.Bool.{Bool, true, false, not, Bool·not-not}
@@ -12,7 +12,7 @@ use native.Mathlib.Nat.{add-zero}
 use native.Mathlib.Omega.{arith}
 use lib.Dec.{ltb}
 use lib.ListN.{length, take, drop, length-drop, drop-of-length-le, List·getD-append}
-use lib.Seq.{take-all, drop-at, drop-drop, length-take-le, getD-drop}
+use lib.Seq.{take-all, drop-at, drop-drop, length-take-le, getD-append-add, getD-drop}
 use Rattle.lists.specs.Places.{tab, at}
 use Rattle.lists.proofs.Tabs.{tab-length}
 use Rattle.lists.proofs.Parts.{part-length}
@@ -67,8 +67,15 @@ module _ (p C : ℕ) (sound : Bool) (tops : List ℕ) (s : State) (after : state
   unfolding isDamaged
   unsound-said e = rw (sym after, e)
 
-  pub last-asked : (rest : List ℕ) → length tops ≡ C + 1 → sound ≡ true → ltb (at (tops ++ rest) C) p ≡ not (isDamaged p s)
+  -- in an array, behind what stands in front
+  pub last-asked : (front rest : List ℕ) (k : ℕ) → k ≡ length front + C → length tops ≡ C + 1 → sound ≡ true
+      → ltb (at (front ++ (tops ++ rest)) k) p ≡ not (isDamaged p s)
   unfolding isDamaged
-  last-asked rest count e =
-      let last = List·getD-append tops rest 0 C (omega arith) ∙ ap (at tops) (sym (add-zero C)) ∙ sym (getD-drop C tops 0 0) in
+  last-asked front rest k place count e =
+      let last =
+      ap (at (front ++ (tops ++ rest))) place
+      ∙ getD-append-add front (tops ++ rest) C 0
+      ∙ List·getD-append tops rest 0 C (omega arith)
+      ∙ ap (at tops) (sym (add-zero C))
+      ∙ sym (getD-drop C tops 0 0) in
       ap (λ (n : ℕ). ltb n p) last ∙ sym (Bool·not-not (ltb (at (drop C tops) 0) p)) ∙ rw (sym after, e)

@@ -68,14 +68,16 @@ fn passes(store: &[u8], c: usize, p: u8) -> bool
     requires { ⌜ length (now store) ≡ storeSize c ⌝ }
     ensures { λ r. ⌜ r ≡ not (specs.isDamaged p (specs.stateAfter p c (specs.rowOf c (now (store .entry))) c)) ⌝ }
 {
-    // One byte more than columns would do. With eight the array, as compiled, begins at a multiple of 16, and no store of 16 bytes of row 0 crosses
-    // the end of a cache line or a page.
-    let mut tops = [0u8; Plan::COLUMNS + 8];
-    let width = c + 1;
-    if !take_rows(&mut tops[..width], store, c, p) {
+    // The columns end at a multiple of 16, of an array that, as compiled, begins at one. Then so does each piece of 16 bytes or more that a row is
+    // raised in, and none crosses the end of a cache line.
+    let mut tops = [0u8; Plan::COLUMNS + 16];
+    let begin = 15 - c % 16;
+    let last = begin + c;
+    let end = last + 1;
+    if !take_rows(&mut tops[begin..end], store, c, p) {
         return false;
     }
-    tops[c] < p
+    tops[last] < p
 }
 
 // Whether a store is in reduced form modulo p.

@@ -2,7 +2,9 @@
 -- `store`), and that it says so is reduced form (`FullReading`). Assumes nothing.
 use mathlib.Core.Path.{_≡_, sym, ap, _∙_}
 use mathlib.Core.Bool.{not, Bool·not-not}
+use mathlib.Core.List.{[]}
 use Prim.Native.Nat.{_+_}
+use native.Mathlib.Nat.{zero-add}
 use native.Mathlib.Omega.{arith}
 use lib.Seq.{length-take-le}
 use borrow.Author.Needs.{needs}
@@ -52,7 +54,8 @@ returns-2 : tie.Need-returns-2
 returns-2 c =
     let start = c .before .before .before .before .before in
     let rows = c .before .before .take-full-rows in
-    last-asked (start .args .p) (start .args .c) (rows .result) (rows .last .0) _ (rows .ensures .1) _ (rows .ensures .0) (not-false (rows .result) (c .if1 .left)) ∙ said start
+    last-asked (start .args .p) (start .args .c) (rows .result) (rows .last .0) _ (rows .ensures .1) [] _ _ (sym (zero-add (start .args .c))) (rows .ensures .0) (not-false (rows .result) (c .if1 .left))
+    ∙ said start
 
 pub is-reduced-full-spec : {M : Type 1} → statement M
 is-reduced-full-spec =
