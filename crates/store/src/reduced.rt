@@ -12,8 +12,8 @@ ghost use Rattle.store.specs.Reading as specs;
 use plan::Plan;
 
 // One row more, with which all is settled that is ever asked of it: with nothing on its diagonal it has to be all zero, else its columns are counted.
-// They stand in a lent slice: by value, 1,025 bytes would be copied in and out with each row. This function and `field::raise_row` have one caller
-// each, or they are not compiled into it, and the test takes 2 to 8 times as long.
+// They stand in a lent slice: by value, 1,025 bytes would be copied in and out with each row. This function and what it calls have one caller each:
+// with a second one they are not compiled into it, and the test takes up to 3.5 times as long.
 fn take_row(sound: bool, tops: &mut [u8], row: &[u8], p: u8) -> bool
     requires { ⌜ length (now row) ≡ length (now tops) ⌝ }
     requires { ⌜ 0 < length (now row) ⌝ }

@@ -4,7 +4,7 @@
 use crate::before::Builds;
 use crate::builds::Build;
 use crate::plans::Case;
-use crate::timing::{calls, least, mean, race_by_depth, shown, Contender, DEPTHS};
+use crate::timing::{calls, least, mean, race_on, shown, Contender, DEPTHS};
 use celerycrag::{raw, Filed, Store};
 use reference::random::SplitMix;
 use std::hint::black_box;
@@ -15,11 +15,16 @@ What `celery_test` takes beyond `celery_check` on the same plan: the test of red
 form by itself, which every call on a store begins with. *Filed* is how many entries of the table \
 were filed, in random order, and *rows* how many rows they left. A store with \
 nothing filed is read like any other, its rows without a pivot faster than those \
-with one. *Least* and *mean* are over the 16 depths of the stack, 5 rounds at each. \
-*Before* is the test of the build before, on the same store, by turns, and *times* the library's time by its.
+with one. *Least* and *mean* are over the 16 depths of the stack, of the least times at each. Every line \
+is timed 8 times over, at each depth once, with all the others between, so that a slow \
+spell of the machine does not decide one. *Before* is the test of the build before, \
+on the same store, by turns, and *times* the library's time by its.
 
 | C | p | filed | rows | least | mean | a byte | before, least | times | before, mean | times |
 |---|---|---|---|---|---|---|---|---|---|---|";
+
+/// How often each line is timed, at each depth of the stack once.
+const PASSES: usize = 8;
 
 /// Radix 2: so many digits, links and products. C = 64, 256, 360, 744 and 1,024.
 const SHAPES: [(usize, usize, usize); 5] = [
@@ -32,16 +37,22 @@ const SHAPES: [(usize, usize, usize); 5] = [
 
 /// The plans that are timed, each for three primes; of these, the ones with at
 /// most so many entries.
-pub fn cases(most: usize) -> impl Iterator<Item = Case> {
+fn cases(most: usize) -> impl Iterator<Item = Case> {
     SHAPES
         .into_iter()
         .filter(move |&(n, _, _)| 1 << n <= most)
         .flat_map(|(n, m, t)| [3, 17, 251].map(|p| Case::new(p, &vec![2; n], m, t)))
 }
 
-/// Stores of the first entries in random order: none, a tenth, half and all of
-/// the table, each with the number of entries and of rows.
-fn stores(case: &Case) -> Vec<(usize, usize, Store)> {
+/// A store of the first entries in random order.
+struct Stage {
+    filed: usize,
+    rows: usize,
+    store: Store,
+}
+
+/// The stores with none, a tenth, half and all of the table filed.
+fn stages(case: &Case) -> Vec<Stage> {
     let all = case.values.len();
     let mut order: Vec<usize> = (0..all).collect();
     let random = &mut SplitMix(7);
@@ -49,12 +60,15 @@ fn stores(case: &Case) -> Vec<(usize, usize, Store)> {
         order.swap(i, (random.bits() % (i as u64 + 1)) as usize);
     }
     let (mut store, mut rows) = (Store::new(&case.plan), 0);
-    let mut kept = vec![(0, 0, store.clone())];
-    for (filed, &entry) in (1..).zip(&order) {
-        let answer = store.file(entry, case.values[entry]).expect("a filing");
-        rows += usize::from(matches!(answer, Filed::New { .. }));
-        if [all.div_ceil(10), all / 2, all].contains(&filed) {
-            kept.push((filed, rows, store.clone()));
+    let mut kept = Vec::new();
+    for filed in 0..=all {
+        if [0, all.div_ceil(10), all / 2, all].contains(&filed) {
+            let store = store.clone();
+            kept.push(Stage { filed, rows, store });
+        }
+        if let Some(&entry) = order.get(filed) {
+            let answer = store.file(entry, case.values[entry]).expect("a filing");
+            rows += usize::from(matches!(answer, Filed::New { .. }));
         }
     }
     kept
@@ -86,39 +100,75 @@ fn contenders<'a>(store: &'a Store, build: Option<&'a Build>) -> [Contender<'a>;
     [test, check]
 }
 
-/// The lines of a plan.
-pub fn lines(case: &Case, builds: Option<&Builds>) -> Vec<String> {
-    let line = |(filed, rows, store): (usize, usize, Store)| {
-        let mut race: Vec<Contender> = Vec::new();
-        match builds {
-            Some(builds) => {
-                race.extend(contenders(&store, Some(builds.library())));
-                race.extend(contenders(&store, Some(builds.before())));
-            }
-            None => race.extend(contenders(&store, None)),
-        }
-        let by_depth = race_by_depth(5 * DEPTHS, race);
-        let alone = |of: fn([f64; DEPTHS]) -> f64| -> Vec<f64> {
-            by_depth
-                .chunks(2)
-                .map(|pair| of(pair[0]) - of(pair[1]))
-                .collect()
+/// A line of the table, and what it is made from.
+struct Line<'a> {
+    columns: usize,
+    p: usize,
+    stage: &'a Stage,
+    contenders: Vec<Contender<'a>>,
+    /// The test and the check of the library, then those of the build before.
+    least: Vec<[f64; DEPTHS]>,
+}
+
+impl<'a> Line<'a> {
+    fn new(stage: &'a Stage, builds: Option<&'a Builds>) -> Line<'a> {
+        let of = |build| contenders(&stage.store, build);
+        let contenders: Vec<Contender> = match builds {
+            Some(builds) => [Some(builds.library()), Some(builds.before())]
+                .into_iter()
+                .flat_map(of)
+                .collect(),
+            None => of(None).into(),
         };
-        let (least, mean) = (alone(least), alone(mean));
+        let plan = stage.store.plan();
+        Line {
+            columns: plan.columns(),
+            p: plan.shape().p,
+            stage,
+            least: vec![[f64::INFINITY; DEPTHS]; contenders.len()],
+            contenders,
+        }
+    }
+
+    /// What the test takes beyond the check, of each build.
+    fn alone(&self, of: fn([f64; DEPTHS]) -> f64) -> Vec<f64> {
+        let pairs = self.least.chunks(2);
+        pairs.map(|pair| of(pair[0]) - of(pair[1])).collect()
+    }
+
+    fn shown(&self) -> String {
+        let (least, mean) = (self.alone(least), self.alone(mean));
         let beside = |times: &[f64]| match times {
             [library, before] => format!("{} | {:.2}", shown(*before), library / before),
             _ => "– | –".to_string(),
         };
         format!(
-            "| {} | {} | {filed} | {rows} | {} | {} | {:.3} ns | {} | {} |",
-            case.plan.columns(),
-            case.plan.shape().p,
+            "| {} | {} | {} | {} | {} | {} | {:.3} ns | {} | {} |",
+            self.columns,
+            self.p,
+            self.stage.filed,
+            self.stage.rows,
             shown(least[0]),
             shown(mean[0]),
-            least[0] / store.as_bytes().len() as f64,
+            least[0] / self.stage.store.as_bytes().len() as f64,
             beside(&least),
             beside(&mean),
         )
-    };
-    stores(case).into_iter().map(line).collect()
+    }
+}
+
+/// The lines of the table. All are timed in turn, several times over, so that a
+/// slow spell of the machine does not decide one.
+pub fn lines(most: usize, builds: Option<&Builds>) -> Vec<String> {
+    let stages: Vec<Stage> = cases(most).flat_map(|case| stages(&case)).collect();
+    let mut lines: Vec<Line> = stages
+        .iter()
+        .map(|stage| Line::new(stage, builds))
+        .collect();
+    for _ in 0..PASSES {
+        for line in &mut lines {
+            race_on(DEPTHS, &mut line.contenders, &mut line.least);
+        }
+    }
+    lines.iter().map(Line::shown).collect()
 }

@@ -115,10 +115,8 @@ fn main() {
 
     let builds = Builds::open();
     println!("\n## The store test alone\n\n{}", alone::INTRODUCTION);
-    for case in alone::cases(most) {
-        for line in alone::lines(&case, builds.as_ref()) {
-            println!("{line}");
-        }
+    for line in alone::lines(most, builds.as_ref()) {
+        println!("{line}");
     }
 
     println!("\n## Moving\n\n{}", moving::INTRODUCTION);

@@ -64,16 +64,21 @@ fn deeper(frames: usize, work: &mut dyn FnMut()) {
 /// the rounds are too few to come there. A round has one depth for all.
 pub fn race_by_depth(rounds: usize, mut contenders: Vec<Contender>) -> Vec<[f64; DEPTHS]> {
     let mut least = vec![[f64::INFINITY; DEPTHS]; contenders.len()];
+    race_on(rounds, &mut contenders, &mut least);
+    least
+}
+
+/// So many rounds more, over the least times so far.
+pub fn race_on(rounds: usize, contenders: &mut [Contender], least: &mut [[f64; DEPTHS]]) {
     for round in 0..rounds {
         // In steps of 5, so that few rounds, too, are all over the page.
         let depth = round * 5 % DEPTHS;
         deeper(depth, &mut || {
-            for (least, contender) in least.iter_mut().zip(&mut contenders) {
+            for (least, contender) in least.iter_mut().zip(&mut *contenders) {
                 least[depth] = least[depth].min(contender());
             }
         });
     }
-    least
 }
 
 /// The least of each contender over the rounds.
