@@ -72,6 +72,7 @@ pub fn is_reduced_full(full: &[u8], c: usize, p: u8) -> bool
     requires { ⌜ length (now full) ≡ fullSize c ⌝ }
     ensures { λ r. ⌜ r ≡ isReduced p c (fullCells c (now (full .entry))) ⌝ }
 {
+    // One byte more than columns would do; with eight the array, as compiled, begins at a multiple of 16.
     let mut tops = [0u8; Plan::COLUMNS + 8];
     let width = c + 1;
     if !take_full_rows(&mut tops[..width], full, c, p) {

@@ -17,7 +17,7 @@ use lib.Seq.{getD-drop}
 use borrow.Author.Tests.{eq-eqb, ne-eqb, eqb-true, lt-ltb, ltb-true}
 use Rattle.lists.specs.Places.{at}
 use Rattle.lists.proofs.Tests.{refute, both, both-true}
-use Rattle.lists.proofs.Tabs.{tab-length, tab-at}
+use Rattle.lists.proofs.Tabs.{tab-at}
 use Rattle.lists.proofs.Parts.{at-past}
 use Rattle.field.specs.Residues.{Residues}
 use Rattle.field.specs.Rows.{allBelow, maxima}

@@ -15,9 +15,10 @@ What `celery_test` takes beyond `celery_check` on the same plan: the test of red
 form by itself, which every call on a store begins with. *Filed* is how many entries of the table \
 were filed, in random order, and *rows* how many rows they left. A store with \
 nothing filed is read like any other, its rows without a pivot faster than those \
-with one. *Least* and *mean* are over the 16 depths of the stack, of the least times at each. Every line \
-is timed 8 times over, at each depth once, with all the others between, so that a slow \
-spell of the machine does not decide one. *Before* is the test of the build before, \
+with one. Every line is timed 8 times over, at each of the 16 depths of the stack once, with all \
+the others between, so that a slow spell of the machine does not decide one. Of these \
+the second least at each depth counts, since a clock may tell too little once; *least* \
+and *mean* are over the depths. *Before* is the test of the build before, \
 on the same store, by turns, and *times* the library's time by its.
 
 | C | p | filed | rows | least | mean | a byte | before, least | times | before, mean | times |
@@ -106,8 +107,9 @@ struct Line<'a> {
     p: usize,
     stage: &'a Stage,
     contenders: Vec<Contender<'a>>,
-    /// The test and the check of the library, then those of the build before.
-    least: Vec<[f64; DEPTHS]>,
+    /// Of each pass the times by depth: of the test and the check of the library,
+    /// then of those of the build before.
+    passes: Vec<Vec<[f64; DEPTHS]>>,
 }
 
 impl<'a> Line<'a> {
@@ -125,15 +127,34 @@ impl<'a> Line<'a> {
             columns: plan.columns(),
             p: plan.shape().p,
             stage,
-            least: vec![[f64::INFINITY; DEPTHS]; contenders.len()],
             contenders,
+            passes: Vec::new(),
         }
+    }
+
+    /// Times every contender once at each depth.
+    fn pass(&mut self) {
+        let mut times = vec![[f64::INFINITY; DEPTHS]; self.contenders.len()];
+        race_on(DEPTHS, &mut self.contenders, &mut times);
+        self.passes.push(times);
+    }
+
+    /// Of a contender, the second least time at each depth: the clock of a
+    /// virtual machine may tell too little once.
+    fn by_depth(&self, contender: usize) -> [f64; DEPTHS] {
+        std::array::from_fn(|depth| {
+            let time = |pass: &Vec<[f64; DEPTHS]>| pass[contender][depth];
+            let mut times: Vec<f64> = self.passes.iter().map(time).collect();
+            times.sort_by(f64::total_cmp);
+            times[1]
+        })
     }
 
     /// What the test takes beyond the check, of each build.
     fn alone(&self, of: fn([f64; DEPTHS]) -> f64) -> Vec<f64> {
-        let pairs = self.least.chunks(2);
-        pairs.map(|pair| of(pair[0]) - of(pair[1])).collect()
+        let time = |contender| of(self.by_depth(contender));
+        let tests = (0..self.contenders.len()).step_by(2);
+        tests.map(|test| time(test) - time(test + 1)).collect()
     }
 
     fn shown(&self) -> String {
@@ -167,7 +188,7 @@ pub fn lines(most: usize, builds: Option<&Builds>) -> Vec<String> {
         .collect();
     for _ in 0..PASSES {
         for line in &mut lines {
-            race_on(DEPTHS, &mut line.contenders, &mut line.least);
+            line.pass();
         }
     }
     lines.iter().map(Line::shown).collect()

@@ -1,7 +1,6 @@
 -- `store::reduced::take_rows` meets its contract: the rows are taken in order (`TakingRows`), each where the store has it (`HalfReading`).
 -- Assumes nothing.
 use mathlib.Core.Path.{_≡_, refl, sym, ap, _∙_}
-use mathlib.Core.List.{List}
 use Prim.Native.Nat.{_+_, _-_, _≤_}
 use native.Mathlib.Omega.{arith}
 use lib.ListN.{length}
