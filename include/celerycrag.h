@@ -263,8 +263,8 @@ uint8_t celery_row(CELERY_PLAN, size_t entry, uint8_t *row, size_t row_len);
  *          also where it is damaged. A row without a pivot is only read; one with
  *          a pivot is compared with the rows above it too, which takes about twice
  *          as long. On the machine of docs/BENCHMARKS.md, with the plan's own test
- *          left out, an empty store takes 0.14 us at C = 64, 0.84 us at 256 and
- *          9.4 us at 1,024, a full one 0.29, 1.8 and 17 us.
+ *          left out, an empty store takes about 0.14 us at C = 64, 0.85 us at 256
+ *          and 9.3 us at 1,024, a full one 0.29, 1.8 and 18 us.
  */
 uint8_t celery_test(CELERY_PLAN, const uint8_t *store, size_t store_len);
 
