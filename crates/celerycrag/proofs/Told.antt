@@ -1,10 +1,12 @@
 -- An answer's number and values tell its case: a contract on `answerOf` says which value of the enum is returned.
 --     checkedOf, filedOf, settledOf, suitedOf, ranOf, normedOf     the case with these values, or with this number
---     checked-told, filed-told, settled-told, suited-told, ran-told, normed-told     of an answer's number and values, it is that answer
+--     rereadOf                                                     the same of a listing read back, with the line where there is one
+--     checked-told, filed-told, settled-told, suited-told, ran-told, normed-told, reread-told     of an answer's number and values, it is that answer
 -- Assumes nothing.
 use mathlib.Core.Path.{_≡_, refl}
 use mathlib.Core.Bool.{cond}
-use mathlib.Core.List.{[], _∷_}
+use mathlib.Core.List.{List, [], _∷_}
+use Prim.Native.Nat.{ℕ}
 use lib.Dec.{eqb}
 use Rattle.lists.specs.Places.{at}
 use Rattle.plan.specs.Causes.{Answer, gives, refuses}
@@ -26,6 +28,9 @@ use Rattle.program.specs.declared.running.Ran.the-variants as ran
 use Rattle.listing.specs.Norm as norms
 use Rattle.listing.specs.declared.norm.Normed.{Normed}
 use Rattle.listing.specs.declared.norm.Normed.the-variants as normed
+use Rattle.readback.specs.Listings as listings
+use Rattle.readback.specs.declared.calls.Reread.{Reread}
+use Rattle.readback.specs.declared.calls.Reread.the-variants as reread
 
 abbrev checkedOf : Answer → Checked
 checkedOf (gives vs) = checked.Accepted (plans.plan (at vs 0) (at vs 1) (at vs 2) (at vs 3) (at vs 4))
@@ -79,3 +84,13 @@ normedOf (refuses k) = normed.Refused k
 pub normed-told : (a : Normed) → normedOf (norms.answerOf a) ≡ a
 normed-told (normed.Norm x) = refl
 normed-told (normed.Refused k) = refl
+
+abbrev rereadOf : Answer → List ℕ → Reread
+rereadOf (gives vs) lines = reread.Read
+rereadOf (refuses k) [] = reread.Refused k
+rereadOf (refuses k) (j ∷ lines) = reread.RefusedAt k j
+
+pub reread-told : (a : Reread) → rereadOf (listings.answerOf a .0) (listings.answerOf a .1) ≡ a
+reread-told reread.Read = refl
+reread-told (reread.Refused k) = refl
+reread-told (reread.RefusedAt k j) = refl

@@ -412,7 +412,7 @@ pub extern "C" fn celery_write(
     k
 }
 
-// Runs a list of steps on n digits: causes 1 2 3 4 5 11 12. `y` and `count` become the output and the number of bootstraps.
+// Runs a list of steps on n digits: causes 1 2 3 4 5 11 12. `y` and `bootstraps` become the output and the number of bootstraps.
 #[no_mangle]
 pub extern "C" fn celery_run(
     p: usize,
@@ -427,17 +427,17 @@ pub extern "C" fn celery_run(
     steps: &[u16],
     digits: &[u8],
     y: &mut u8,
-    count: &mut usize,
+    bootstraps: &mut usize,
 ) -> u8
     ensures { λ r. ⌜ r ≡ numberOf (programs.runAnswer (given p s n m t (now (radices .entry)) (now (weights .entry)) (now (tables .entry)) (now (d .entry))) (now (steps .entry)) (now (digits .entry))) ⌝ }
     ensures { λ r. ⌜ now (y .exit) ≡ specs.valueOf (programs.runAnswer (given p s n m t (now (radices .entry)) (now (weights .entry)) (now (tables .entry)) (now (d .entry))) (now (steps .entry)) (now (digits .entry))) 0 (now (y .entry)) ⌝ }
-    ensures { λ r. ⌜ now (count .exit) ≡ specs.valueOf (programs.runAnswer (given p s n m t (now (radices .entry)) (now (weights .entry)) (now (tables .entry)) (now (d .entry))) (now (steps .entry)) (now (digits .entry))) 1 (now (count .entry)) ⌝ }
+    ensures { λ r. ⌜ now (bootstraps .exit) ≡ specs.valueOf (programs.runAnswer (given p s n m t (now (radices .entry)) (now (weights .entry)) (now (tables .entry)) (now (d .entry))) (now (steps .entry)) (now (digits .entry))) 1 (now (bootstraps .entry)) ⌝ }
 {
     let a = program::run(p, s, n, m, t, radices, weights, tables, d, steps, digits);
     match a {
         program::Ran::Done(v, b) => {
             *y = v;
-            *count = b;
+            *bootstraps = b;
             0
         }
         program::Ran::Refused(k) => k,
@@ -482,7 +482,7 @@ pub extern "C" fn celery_read_listing(
     beta: &mut [u8],
     line: &mut usize,
 ) -> u8
-    ensures { λ r. ⌜ r ≡ listings.listingAnswer (given p s n m t (now (radices .entry)) (now (weights .entry)) (now (tables .entry)) (now (d .entry))) (now (text .entry)) (now (beta .entry)) .0 ⌝ }
+    ensures { λ r. ⌜ r ≡ numberOf (listings.listingAnswer (given p s n m t (now (radices .entry)) (now (weights .entry)) (now (tables .entry)) (now (d .entry))) (now (text .entry)) (now (beta .entry)) .0) ⌝ }
     ensures { λ r. ⌜ now (beta .exit) ≡ listings.listingLeft (given p s n m t (now (radices .entry)) (now (weights .entry)) (now (tables .entry)) (now (d .entry))) (now (text .entry)) (now (beta .entry)) ⌝ }
     ensures { λ r. ⌜ now (line .exit) ≡ specs.lineAfter (listings.listingAnswer (given p s n m t (now (radices .entry)) (now (weights .entry)) (now (tables .entry)) (now (d .entry))) (now (text .entry)) (now (beta .entry)) .1) (now (line .entry)) ⌝ }
 {

@@ -16,7 +16,8 @@ use Rattle.listing.specs.Printed.{listing}
 use Rattle.lines.specs.Lines.{cutAt, allDigits, isNumeral, numberFrom, allNumerals, asks, numbers}
 use Rattle.lines.proofs.Quotes.{bytes}
 use Rattle.readback.specs.Recovery.{coefficientStep, recovered, isWritten, stepsCauses}
-use Rattle.readback.specs.Listings.{lineFits, badLine, stepNumbers, malformed, stepsIn, isListing, textAnswer, listingAnswer, listingLeft}
+use Rattle.readback.specs.Listings.{lineFits, badLine, stepNumbers, malformed, stepsIn, isListing, answerOf, textAnswer, listingAnswer, listingLeft}
+use Rattle.readback.specs.declared.calls.Reread.the-variants.{Read, Refused, RefusedAt}
 
 -- 01's XOR: two digits, a product
 abbrev xorPlan : Plan
@@ -34,49 +35,49 @@ oneGiven = lend onePlan (2 ∷ []) [] [] []
 
 pub record Readings : Type 0 where
   -- XOR's listing gives 0 1 1 0
-  pub xor-whole : textAnswer xorPlan [] (1 ∷ 1 ∷ []) xor ≡ (0, [])
+  pub xor-whole : textAnswer xorPlan [] (1 ∷ 1 ∷ []) xor ≡ answerOf Read
   pub xor-found : recovered xorPlan (stepsIn xor) ≡ 0 ∷ 1 ∷ 1 ∷ 0 ∷ []
   -- where the coefficients stand: in steps 2 and 3, behind the clearing of y and of u, and in steps 17 and 18
   pub xor-places : tab 4 (λ c. coefficientStep xorPlan (c / 2) (c % 2)) ≡ 2 ∷ 3 ∷ 17 ∷ 18 ∷ []
   -- another plan with the same numbers, d = 1 2: its program has another second sum
-  pub other-plan : textAnswer xorPlan [] (1 ∷ 2 ∷ []) xor ≡ (15, 1 ∷ [])
+  pub other-plan : textAnswer xorPlan [] (1 ∷ 2 ∷ []) xor ≡ answerOf (RefusedAt 15 1)
   -- one digit, no link and no product: y cleared, and the digit added by 2, which counts as -1
-  pub one-whole : textAnswer onePlan [] [] (bytes "bootstraps steps worst\n0 2 1\nkind to from by\n0 5 0 0\n1 5 0 2\n") ≡ (0, [])
+  pub one-whole : textAnswer onePlan [] [] (bytes "bootstraps steps worst\n0 2 1\nkind to from by\n0 5 0 0\n1 5 0 2\n") ≡ answerOf Read
   pub one-found : recovered onePlan (stepsIn (bytes "bootstraps steps worst\n0 2 1\nkind to from by\n0 5 0 0\n1 5 0 2\n")) ≡ 2 ∷ []
   -- each figure wrong by one
-  pub first-figure : textAnswer onePlan [] [] (bytes "bootstraps steps worst\n1 2 1\nkind to from by\n0 5 0 0\n1 5 0 2\n") ≡ (15, 1 ∷ [])
-  pub second-figure : textAnswer onePlan [] [] (bytes "bootstraps steps worst\n0 3 1\nkind to from by\n0 5 0 0\n1 5 0 2\n") ≡ (15, 1 ∷ [])
-  pub third-figure : textAnswer onePlan [] [] (bytes "bootstraps steps worst\n0 2 2\nkind to from by\n0 5 0 0\n1 5 0 2\n") ≡ (15, 1 ∷ [])
+  pub first-figure : textAnswer onePlan [] [] (bytes "bootstraps steps worst\n1 2 1\nkind to from by\n0 5 0 0\n1 5 0 2\n") ≡ answerOf (RefusedAt 15 1)
+  pub second-figure : textAnswer onePlan [] [] (bytes "bootstraps steps worst\n0 3 1\nkind to from by\n0 5 0 0\n1 5 0 2\n") ≡ answerOf (RefusedAt 15 1)
+  pub third-figure : textAnswer onePlan [] [] (bytes "bootstraps steps worst\n0 2 2\nkind to from by\n0 5 0 0\n1 5 0 2\n") ≡ answerOf (RefusedAt 15 1)
   -- a step line more, and one fewer
-  pub step-more : textAnswer onePlan [] [] (bytes "bootstraps steps worst\n0 2 1\nkind to from by\n0 5 0 0\n1 5 0 2\n1 5 0 2\n") ≡ (15, 1 ∷ [])
-  pub step-fewer : textAnswer onePlan [] [] (bytes "bootstraps steps worst\n0 2 1\nkind to from by\n0 5 0 0\n") ≡ (15, 1 ∷ [])
+  pub step-more : textAnswer onePlan [] [] (bytes "bootstraps steps worst\n0 2 1\nkind to from by\n0 5 0 0\n1 5 0 2\n1 5 0 2\n") ≡ answerOf (RefusedAt 15 1)
+  pub step-fewer : textAnswer onePlan [] [] (bytes "bootstraps steps worst\n0 2 1\nkind to from by\n0 5 0 0\n") ≡ answerOf (RefusedAt 15 1)
   -- no step line: 13 passes, 15 does not
-  pub no-steps : textAnswer onePlan [] [] (bytes "bootstraps steps worst\n0 2 1\nkind to from by\n") ≡ (15, 1 ∷ [])
+  pub no-steps : textAnswer onePlan [] [] (bytes "bootstraps steps worst\n0 2 1\nkind to from by\n") ≡ answerOf (RefusedAt 15 1)
   -- a coefficient that is no residue, and one of 65,538, whose last 16 bits are 2
-  pub no-residue : textAnswer onePlan [] [] (bytes "bootstraps steps worst\n0 2 1\nkind to from by\n0 5 0 0\n1 5 0 3\n") ≡ (15, 1 ∷ [])
-  pub wide-number : textAnswer onePlan [] [] (bytes "bootstraps steps worst\n0 2 1\nkind to from by\n0 5 0 0\n1 5 0 65538\n") ≡ (15, 1 ∷ [])
+  pub no-residue : textAnswer onePlan [] [] (bytes "bootstraps steps worst\n0 2 1\nkind to from by\n0 5 0 0\n1 5 0 3\n") ≡ answerOf (RefusedAt 15 1)
+  pub wide-number : textAnswer onePlan [] [] (bytes "bootstraps steps worst\n0 2 1\nkind to from by\n0 5 0 0\n1 5 0 65538\n") ≡ answerOf (RefusedAt 15 1)
   -- 13 comes with its line, and before 15: the empty text, one line, two lines
-  pub empty-text : textAnswer onePlan [] [] [] ≡ (13, 1 ∷ [])
-  pub one-line : textAnswer onePlan [] [] (bytes "bootstraps steps worst\n") ≡ (13, 2 ∷ [])
-  pub two-lines : textAnswer onePlan [] [] (bytes "bootstraps steps worst\n0 2 1\n") ≡ (13, 3 ∷ [])
+  pub empty-text : textAnswer onePlan [] [] [] ≡ answerOf (RefusedAt 13 1)
+  pub one-line : textAnswer onePlan [] [] (bytes "bootstraps steps worst\n") ≡ answerOf (RefusedAt 13 2)
+  pub two-lines : textAnswer onePlan [] [] (bytes "bootstraps steps worst\n0 2 1\n") ≡ answerOf (RefusedAt 13 3)
   -- names of another line, a CR before the LF
-  pub other-names : textAnswer onePlan [] [] (bytes "kind to from by\n0 2 1\n") ≡ (13, 1 ∷ [])
-  pub cr-lf : textAnswer onePlan [] [] (bytes "bootstraps steps worst\r\n0 2 1\n") ≡ (13, 1 ∷ [])
+  pub other-names : textAnswer onePlan [] [] (bytes "kind to from by\n0 2 1\n") ≡ answerOf (RefusedAt 13 1)
+  pub cr-lf : textAnswer onePlan [] [] (bytes "bootstraps steps worst\r\n0 2 1\n") ≡ answerOf (RefusedAt 13 1)
   -- a figure of 7 digits is a number, one of 8 is none
-  pub seven-digits : textAnswer onePlan [] [] (bytes "bootstraps steps worst\n0 2 1000000\nkind to from by\n0 5 0 0\n1 5 0 2\n") ≡ (15, 1 ∷ [])
-  pub eight-digits : textAnswer onePlan [] [] (bytes "bootstraps steps worst\n0 2 10000000\nkind to from by\n0 5 0 0\n1 5 0 2\n") ≡ (13, 2 ∷ [])
+  pub seven-digits : textAnswer onePlan [] [] (bytes "bootstraps steps worst\n0 2 1000000\nkind to from by\n0 5 0 0\n1 5 0 2\n") ≡ answerOf (RefusedAt 15 1)
+  pub eight-digits : textAnswer onePlan [] [] (bytes "bootstraps steps worst\n0 2 10000000\nkind to from by\n0 5 0 0\n1 5 0 2\n") ≡ answerOf (RefusedAt 13 2)
   -- a step's number has at most 5
-  pub six-digits : textAnswer onePlan [] [] (bytes "bootstraps steps worst\n0 2 1\nkind to from by\n0 5 0 0\n1 5 0 100000\n") ≡ (13, 5 ∷ [])
+  pub six-digits : textAnswer onePlan [] [] (bytes "bootstraps steps worst\n0 2 1\nkind to from by\n0 5 0 0\n1 5 0 100000\n") ≡ answerOf (RefusedAt 13 5)
   -- a leading zero, three numbers, two spaces, an empty line
-  pub leading-zero : textAnswer onePlan [] [] (bytes "bootstraps steps worst\n0 2 1\nkind to from by\n0 5 0 0\n1 5 0 02\n") ≡ (13, 5 ∷ [])
-  pub three-numbers : textAnswer onePlan [] [] (bytes "bootstraps steps worst\n0 2 1\nkind to from by\n0 5 0\n1 5 0 2\n") ≡ (13, 4 ∷ [])
-  pub two-spaces : textAnswer onePlan [] [] (bytes "bootstraps steps worst\n0 2 1\nkind to from by\n0 5  0\n1 5 0 2\n") ≡ (13, 4 ∷ [])
-  pub empty-line : textAnswer onePlan [] [] (bytes "bootstraps steps worst\n0 2 1\nkind to from by\n0 5 0 0\n1 5 0 2\n\n") ≡ (13, 6 ∷ [])
+  pub leading-zero : textAnswer onePlan [] [] (bytes "bootstraps steps worst\n0 2 1\nkind to from by\n0 5 0 0\n1 5 0 02\n") ≡ answerOf (RefusedAt 13 5)
+  pub three-numbers : textAnswer onePlan [] [] (bytes "bootstraps steps worst\n0 2 1\nkind to from by\n0 5 0\n1 5 0 2\n") ≡ answerOf (RefusedAt 13 4)
+  pub two-spaces : textAnswer onePlan [] [] (bytes "bootstraps steps worst\n0 2 1\nkind to from by\n0 5  0\n1 5 0 2\n") ≡ answerOf (RefusedAt 13 4)
+  pub empty-line : textAnswer onePlan [] [] (bytes "bootstraps steps worst\n0 2 1\nkind to from by\n0 5 0 0\n1 5 0 2\n\n") ≡ answerOf (RefusedAt 13 6)
   -- the last line without its LF
-  pub no-lf : textAnswer onePlan [] [] (bytes "bootstraps steps worst\n0 2 1\nkind to from by\n0 5 0 0\n1 5 0 2") ≡ (13, 5 ∷ [])
+  pub no-lf : textAnswer onePlan [] [] (bytes "bootstraps steps worst\n0 2 1\nkind to from by\n0 5 0 0\n1 5 0 2") ≡ answerOf (RefusedAt 13 5)
   -- of two malformed lines the first counts, and a malformed one before a wrong figure
-  pub two-malformed : textAnswer onePlan [] [] (bytes "bootstraps steps worst\n0 2 1 4\nkind to from\n") ≡ (13, 2 ∷ [])
-  pub malformed-first : textAnswer onePlan [] [] (bytes "bootstraps steps worst\n5 5 5\nkind to from by\n0 5 0 0\n1 5 0\n") ≡ (13, 5 ∷ [])
+  pub two-malformed : textAnswer onePlan [] [] (bytes "bootstraps steps worst\n0 2 1 4\nkind to from\n") ≡ answerOf (RefusedAt 13 2)
+  pub malformed-first : textAnswer onePlan [] [] (bytes "bootstraps steps worst\n5 5 5\nkind to from by\n0 5 0 0\n1 5 0\n") ≡ answerOf (RefusedAt 13 5)
   -- from steps: the list of one digit's program gives 2, and other lists give 15
   pub steps-whole : first (stepsCauses oneGiven (0 ∷ 5 ∷ 0 ∷ 0 ∷ 1 ∷ 5 ∷ 0 ∷ 2 ∷ []) (9 ∷ [])) ≡ 0
   pub steps-none : first (stepsCauses oneGiven ([]) (9 ∷ [])) ≡ 15
@@ -85,7 +86,7 @@ pub record Readings : Type 0 where
   -- kind 3, which is cause 11 for a run, is 15 here
   pub steps-malformed : first (stepsCauses oneGiven (3 ∷ 5 ∷ 0 ∷ 0 ∷ 1 ∷ 5 ∷ 0 ∷ 2 ∷ []) (9 ∷ [])) ≡ 15
   -- β of another length is 4, before 13 and 15, and has no line
-  pub short-β : listingAnswer oneGiven [] [] ≡ (4, [])
+  pub short-β : listingAnswer oneGiven [] [] ≡ answerOf (Refused 4)
   pub steps-short-β : first (stepsCauses oneGiven [] []) ≡ 4
   -- what is left in β: the coefficient, or what was there
   pub left-read : listingLeft oneGiven (bytes "bootstraps steps worst\n0 2 1\nkind to from by\n0 5 0 0\n1 5 0 2\n") (9 ∷ []) ≡ 2 ∷ []

@@ -22,9 +22,10 @@ use Rattle.field.proofs.Ranges.{residues-of, below-of}
 use Rattle.plan.specs.declared.numbers.Plan.{Plan}
 use Rattle.plan.specs.Numbers.{Within}
 use Rattle.plan.specs.declared.admission.Own.the-variants.{Row}
-use Rattle.plan.specs.Causes.{first}
+use Rattle.plan.specs.Causes.{first, Answer}
 use Rattle.plan.specs.Parts.{Given, callCauses}
 use Rattle.plan.proofs.Bounds.{prime-low}
+use Rattle.plan.proofs.Refusals.{refused-answer}
 use Rattle.program.specs.Layout.{layout, stepCount}
 use Rattle.program.proofs.Shape.{layout-length, step-limit}
 use Rattle.listing.specs.Norm.{worst}
@@ -32,7 +33,8 @@ use Rattle.listing.specs.Printed.{figures, listing}
 use Rattle.listing.proofs.Rooms.{small-steps}
 use Rattle.listing.proofs.NormLimit.{worst-limit}
 use Rattle.readback.specs.Recovery.{recovered, isWritten}
-use Rattle.readback.specs.Listings.{malformed, stepsIn, isListing, textAnswer, textLeft, listingCauses, listingAnswer}
+use Rattle.readback.specs.Listings.{malformed, stepsIn, isListing, answerOf, textAnswer, textLeft, listingCauses, listingAnswer}
+use Rattle.readback.specs.declared.calls.Reread.the-variants.{Read, Refused, RefusedAt}
 use Rattle.readback.specs.Scanned.{figuresIn, Lost}
 use Rattle.readback.proofs.Texts.{shown, listing-shown, shown-fits, shown-figures, shown-steps, text-shown}
 
@@ -107,13 +109,13 @@ module _ (P : Plan) (within : Within P) (w d : List ℕ) (hw : Residues (P .p) w
 
 -- the answer, and what is left in β
 module _ (P : Plan) (w d text β : List ℕ) where
-  pub answer-malformed : (j : ℕ) → malformed text ≡ j → 0 < j → ((13, j ∷ []) ≡ textAnswer P w d text) × (β ≡ textLeft P w d text β)
+  pub answer-malformed : (j : ℕ) → malformed text ≡ j → 0 < j → (answerOf (RefusedAt 13 j) ≡ textAnswer P w d text) × (β ≡ textLeft P w d text β)
   answer-malformed j e l = let other = ne-eqb j 0 (λ z. omega (arith, z, l)) in (rw (e, other), rw (e, other))
 
-  pub answer-refused : malformed text ≡ 0 → isListing P w d text ≡ false → ((15, 1 ∷ []) ≡ textAnswer P w d text) × (β ≡ textLeft P w d text β)
+  pub answer-refused : malformed text ≡ 0 → isListing P w d text ≡ false → (answerOf (RefusedAt 15 1) ≡ textAnswer P w d text) × (β ≡ textLeft P w d text β)
   answer-refused e f = (rw (e, f), rw (e, f))
 
-  pub answer-read : malformed text ≡ 0 → isListing P w d text ≡ true → ((0, []) ≡ textAnswer P w d text) × (recovered P (stepsIn text) ≡ textLeft P w d text β)
+  pub answer-read : malformed text ≡ 0 → isListing P w d text ≡ true → (answerOf Read ≡ textAnswer P w d text) × (recovered P (stepsIn text) ≡ textLeft P w d text β)
   answer-read e t = (rw (e, t), rw (e, t))
 
 -- a list of causes numbered 1 to n refuses with one of these numbers
@@ -130,8 +132,8 @@ first-most n (cause ∷ causes) h = by (cause .1) (h .0) (first-most n causes (h
     by false here later = later
 
 -- a plan that is not admitted is refused without a line
-pub answer-early : (G : Given) (text β : List ℕ) (k : ℕ) → k ≡ first (callCauses G (Row (length β)) (λ _. [])) → k ≡ first (listingCauses G text β) → (k, []) ≡ listingAnswer G text β
+pub answer-early : (G : Given) (text β : List ℕ) (k : ℕ) → k ≡ first (callCauses G (Row (length β)) (λ _. [])) → k ≡ first (listingCauses G text β) → 0 < k → answerOf (Refused k) ≡ listingAnswer G text β
 unfolding callCauses
-answer-early G text β k early e =
+answer-early G text β k early e pos =
     let few : k ≤ 5 = rw early (first-most 5 (callCauses G (Row (length β)) (λ _. [])) (omega arith)) in
-    ap₂ (λ (j : ℕ) (l : List ℕ). (j, l)) e (rw (sym e, ne-eqb k 13 (λ z. omega (arith, z, few)), ne-eqb k 15 (λ z. omega (arith, z, few))))
+    ap₂ (λ (a : Answer) (l : List ℕ). (a, l)) (refused-answer k _ [] e pos) (rw (sym e, ne-eqb k 13 (λ z. omega (arith, z, few)), ne-eqb k 15 (λ z. omega (arith, z, few))))

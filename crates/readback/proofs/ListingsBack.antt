@@ -7,7 +7,7 @@
 use mathlib.Core.Path.{_≡_, refl, sym, ap, _∙_}
 use mathlib.Core.Bool.{Bool, true, false}
 use mathlib.Core.Logic.{_↔_}
-use mathlib.Core.List.{List, [], _∷_}
+use mathlib.Core.List.{List, []}
 use Prim.Native.Nat.{ℕ}
 use native.Mathlib.Omega.{arith}
 use lib.ListN.{length}
@@ -18,16 +18,17 @@ use Rattle.lists.proofs.Sameness.{same-refl, same-true}
 use Rattle.field.specs.Rows.{allBelow}
 use Rattle.field.proofs.Ranges.{residues-of, below-of}
 use Rattle.plan.specs.declared.admission.Own.the-variants.{Nothing, Row}
-use Rattle.plan.specs.Causes.{first}
+use Rattle.plan.specs.Causes.{first, Answer, answer}
 use Rattle.plan.specs.Numbers.{columns}
 use Rattle.plan.specs.Parts.{Given, checkCauses}
 use Rattle.plan.proofs.Bounds.{prime-low}
-use Rattle.plan.proofs.Refusals.{none-met}
+use Rattle.plan.proofs.Refusals.{none-met, answer-gives}
 use Rattle.plan.proofs.Admitting.{Unrefused, unrefused, accepted-call}
 use Rattle.program.specs.Layout.{layout}
 use Rattle.listing.specs.Printed.{figures, listing}
 use Rattle.readback.specs.Recovery.{recovered}
-use Rattle.readback.specs.Listings.{malformed, stepsIn, isListing, listingOwn, listingCauses, lineOf, listingAnswer, listingLeft, Listed}
+use Rattle.readback.specs.Listings.{malformed, stepsIn, isListing, listingOwn, listingCauses, lineOf, answerOf, listingAnswer, listingLeft, Listed}
+use Rattle.readback.specs.declared.calls.Reread.the-variants.{Read, RefusedAt}
 use Rattle.readback.specs.Scanned.{figuresIn}
 use Rattle.readback.proofs.Places.{recovered-length, recovered-layout}
 use Rattle.readback.proofs.ListingTests.{printed-back}
@@ -66,30 +67,35 @@ module _ (G : Given) (accepted : first (checkCauses G) ≡ 0) (text : List ℕ) 
     call : first (listingCauses G text β₀) ≡ first (listingOwn text G)
     call = accepted-call G accepted (Row (length β₀)) (listingOwn text) (eq-eqb (length β₀) (columns (G .numbers)) room)
 
-    passed : listingAnswer G text β₀ ≡ (0, []) → isListing (G .numbers) (G .weights) (G .products) text ≡ true
+    read-none : listingAnswer G text β₀ ≡ answerOf Read → first (listingCauses G text β₀) ≡ 0
+    read-none e = answer-gives _ [] [] (ap (λ (x : Answer × List ℕ). x .0) e) .0
+
+    passed : listingAnswer G text β₀ ≡ answerOf Read → isListing (G .numbers) (G .weights) (G .products) text ≡ true
     passed e =
-        let none = ap (λ (x : ℕ × List ℕ). x .0) e in
+        let none = read-none e in
         not-false _ (none-met (listingOwn text G) (omega arith) (sym call ∙ none) .1 .0)
 
-    pub listing-exactly : (listingAnswer G text β₀ ≡ (0, [])) ↔ ((β : List ℕ) × Listed G text β)
+    pub listing-exactly : (listingAnswer G text β₀ ≡ answerOf Read) ↔ ((β : List ℕ) × Listed G text β)
     listing-exactly = (
       (λ e. (recovered (G .numbers) (stepsIn text), listed-of (passed e))),
       (λ x.
           let none : first (listingCauses G text β₀) ≡ 0 = call ∙ rw (back (x .0) (x .1) .0, listed-test (x .0) (x .1)) in
-          ap (λ (k : ℕ). (k, lineOf k text)) none),
+          ap (λ (k : ℕ). (answer k [], lineOf k text)) none),
     )
 
-    pub listing-refused : malformed text ≡ 0 → (((β : List ℕ) × Listed G text β) → ⊥) → listingAnswer G text β₀ ≡ (15, 1 ∷ [])
+    pub listing-refused : malformed text ≡ 0 → (((β : List ℕ) × Listed G text β) → ⊥) → listingAnswer G text β₀ ≡ answerOf (RefusedAt 15 1)
     listing-refused good none = by (isListing (G .numbers) (G .weights) (G .products) text) refl
       where
-        by : (b : Bool) → isListing (G .numbers) (G .weights) (G .products) text ≡ b → listingAnswer G text β₀ ≡ (15, 1 ∷ [])
+        by : (b : Bool) → isListing (G .numbers) (G .weights) (G .products) text ≡ b → listingAnswer G text β₀ ≡ answerOf (RefusedAt 15 1)
         by true t = absurd (none (recovered (G .numbers) (stepsIn text), listed-of t))
-        by false t = ap (λ (k : ℕ). (k, lineOf k text)) (call ∙ rw (good, t))
+        by false t =
+            let refused : first (listingCauses G text β₀) ≡ 15 = call ∙ rw (good, t) in
+            ap (λ (k : ℕ). (answer k [], lineOf k text)) refused
 
     pub record Returned (left : List ℕ) : Type 0 where
       pub again : Listed G text left
       pub only : (β : List ℕ) → Listed G text β → β ≡ left
 
-    pub listing-again : listingAnswer G text β₀ ≡ (0, []) → Returned (listingLeft G text β₀)
+    pub listing-again : listingAnswer G text β₀ ≡ answerOf Read → Returned (listingLeft G text β₀)
     listing-again e =
-        rw (ap (λ (x : ℕ × List ℕ). x .0) e) (record { again = listed-of (passed e); only = λ β h. sym (one β h) })
+        rw (read-none e) (record { again = listed-of (passed e); only = λ β h. sym (one β h) })

@@ -11,7 +11,7 @@
 --     textCauses P w d text       the causes of a text under a checked plan, 13 and 15
 --     listingOwn text G           the same of a plan as lent; `listingCauses G text β`: all that the call can meet, 1 2 3 4 5 13 15
 --     lineOf k text               the line that goes with refusal k: the malformed one with 13, line 1 with 15, and none with another
---     answerOf a                  01's number for each case of the answer, with its line where it has one
+--     answerOf a                  what each case of the answer is: it gives, or refuses with 01's number; and the line that goes with it, where one does
 --     textAnswer P w d text       the answer for a checked plan; `listingAnswer G text β`: what `read_listing` answers
 --     textLeft P w d text β       what is left in β for a checked plan; `listingLeft G text β`: what `read_listing` leaves there
 --     Listed G text β             β is a list of C residues whose listing is the text
@@ -26,7 +26,7 @@ use Rattle.field.specs.Residues.{Residues}
 use Rattle.field.specs.Rows.{allBelow}
 use Rattle.plan.specs.declared.numbers.Plan.{Plan}
 use Rattle.plan.specs.declared.admission.Own.the-variants.{Row}
-use Rattle.plan.specs.Causes.{first, result}
+use Rattle.plan.specs.Causes.{first, result, Answer, gives, refuses, answer}
 use Rattle.plan.specs.Numbers.{columns}
 use Rattle.plan.specs.Parts.{Given, callCauses}
 use Rattle.lines.specs.Lines.{cutAt, asks, numbers}
@@ -79,24 +79,25 @@ listingCauses G text β = callCauses G (Row (length β)) (listingOwn text)
 abbrev pub lineOf : ℕ → List ℕ → List ℕ
 lineOf k text = cond (eqb k 13) (malformed text ∷ []) (cond (eqb k 15) (1 ∷ []) [])
 
-abbrev pub answerOf : Reread → ℕ × List ℕ
-answerOf Read = (0, [])
-answerOf (Refused k) = (k, [])
-answerOf (RefusedAt k j) = (k, j ∷ [])
+-- no value comes with `Read`: what is read goes into β
+abbrev pub answerOf : Reread → Answer × List ℕ
+answerOf Read = (gives [], [])
+answerOf (Refused k) = (refuses k, [])
+answerOf (RefusedAt k j) = (refuses k, j ∷ [])
 
-abbrev pub textAnswer : Plan → List ℕ → List ℕ → List ℕ → ℕ × List ℕ
+abbrev pub textAnswer : Plan → List ℕ → List ℕ → List ℕ → Answer × List ℕ
 textAnswer P w d text =
     let k = first (textCauses P w d text) in
-    (k, lineOf k text)
+    (answer k [], lineOf k text)
 
 abbrev pub textLeft : Plan → List ℕ → List ℕ → List ℕ → List ℕ → List ℕ
 textLeft P w d text β = result (first (textCauses P w d text)) (recovered P (stepsIn text)) β
 
 -- the call as a whole
-abbrev pub listingAnswer : Given → List ℕ → List ℕ → ℕ × List ℕ
+abbrev pub listingAnswer : Given → List ℕ → List ℕ → Answer × List ℕ
 listingAnswer G text β =
     let k = first (listingCauses G text β) in
-    (k, lineOf k text)
+    (answer k [], lineOf k text)
 
 abbrev pub listingLeft : Given → List ℕ → List ℕ → List ℕ
 listingLeft G text β = result (first (listingCauses G text β)) (recovered (G .numbers) (stepsIn text)) β

@@ -3,17 +3,18 @@ use mathlib.Core.Path.{_≡_, sym, ap, _∙_}
 use mathlib.Core.List.{List}
 use Prim.Native.Nat.{ℕ}
 use borrow.Author.Needs.{needs}
+use Rattle.plan.specs.Causes.{Answer, numberOf}
 use Rattle.readback.specs.Listings.{answerOf}
 use Rattle.celerycrag.specs.Numbers.{lineAfter}
 use Rattle.celerycrag.proofs.celery_read_listing.Statement.{statement}
 use Rattle.celerycrag.proofs.celery_read_listing.Tie as tie
 
 -- an answer's number, and the line behind it
-number : {a b : ℕ × List ℕ} → a ≡ b → a .0 ≡ b .0
-number e = ap (λ (x : ℕ × List ℕ). x .0) e
+number : {a b : Answer × List ℕ} → a ≡ b → numberOf (a .0) ≡ numberOf (b .0)
+number e = ap (λ (x : Answer × List ℕ). numberOf (x .0)) e
 
-line : {a b : ℕ × List ℕ} (old : ℕ) → a ≡ b → lineAfter (a .1) old ≡ lineAfter (b .1) old
-line old e = ap (λ (x : ℕ × List ℕ). lineAfter (x .1) old) e
+line : {a b : Answer × List ℕ} (old : ℕ) → a ≡ b → lineAfter (a .1) old ≡ lineAfter (b .1) old
+line old e = ap (λ (x : Answer × List ℕ). lineAfter (x .1) old) e
 
 read-listing-requires : tie.Need-read-listing-requires
 read-listing-requires c κs = search needs

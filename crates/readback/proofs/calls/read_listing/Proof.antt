@@ -7,7 +7,7 @@ use borrow.Author.Tests.{eqb-true}
 use borrow.Author.Needs.{needs}
 use Rattle.plan.specs.declared.numbers.Plan.{Plan}
 use Rattle.plan.specs.declared.admission.Own.the-variants.{Row}
-use Rattle.plan.specs.Causes.{result}
+use Rattle.plan.specs.Causes.{result, answer}
 use Rattle.plan.specs.Numbers.{answerOf}
 use Rattle.plan.specs.Parts.{given}
 use Rattle.plan.proofs.Refusals.{result-refused}
@@ -47,7 +47,7 @@ returns c =
     let e = sym (c .before .before .before .admit .ensures) ∙ ap answerOf (c .before .k .given .1) in
     let alone = turned-away _ _ e (λ _. []) in
     let r = turned-away _ _ e _ in
-    (answer-early _ (s .text .now) (s .beta .now) _ (alone .0) (r .0), sym (result-refused _ _ _ (subst (λ (n : ℕ). 0 < n) (r .0) (r .1))))
+    (answer-early _ (s .text .now) (s .beta .now) _ (alone .0) (r .0) (r .1), sym (result-refused _ _ _ (subst (λ (n : ℕ). 0 < n) (r .0) (r .1))))
 
 same-length : tie.Need-same-length
 same-length c = search needs
@@ -59,7 +59,7 @@ returns-2 c =
     let a = admitted r in
     let s = start r .args in
     let own = sym (a .rest _) in (
-      read .read-text .ensures .0 ∙ ap (λ (k : ℕ). (k, lineOf k (s .text .now))) own,
+      read .read-text .ensures .0 ∙ ap (λ (k : ℕ). (answer k [], lineOf k (s .text .now))) own,
       read .read-text .ensures .1
           ∙ ap₂ (λ (k : ℕ) (Q : Plan). result k (recovered Q (stepsIn (s .text .now))) (s .beta .now)) own (sym (a .same)),
     )

@@ -2,7 +2,7 @@
 -- Assumes nothing.
 use mathlib.Core.Path.{_≡_, sym, ap, ap₂, subst, _∙_}
 use mathlib.Core.Bool.{true, false}
-use mathlib.Core.List.{List, [], _∷_, _++_}
+use mathlib.Core.List.{List, _++_}
 use mathlib.Core.Logic.{inl, inr}
 use Prim.Native.Nat.{ℕ, _+_, _≤_, _<_}
 use native.Mathlib.Omega.{arith}
@@ -16,8 +16,9 @@ use Rattle.plan.specs.declared.numbers.Plan.{Plan}
 use Rattle.plan.proofs.Bounds.{prime-low}
 use Rattle.listing.specs.Printed.{figures}
 use Rattle.readback.specs.Recovery.{recovered, isWritten}
-use Rattle.readback.specs.Listings.{malformed, stepsIn, isListing, textAnswer, textLeft}
+use Rattle.readback.specs.Listings.{malformed, stepsIn, isListing, answerOf, textAnswer, textLeft}
 use Rattle.readback.specs.Scanned.{figuresIn, Kept, Scanned}
+use Rattle.readback.specs.declared.calls.Reread.the-variants.{RefusedAt}
 use Rattle.readback.specs.declared.scanning.Scan.{Scan}
 use Rattle.readback.proofs.Places.{recovered-length}
 use Rattle.readback.proofs.Arrays.{front-room, front-list, front-length, columns-few}
@@ -69,7 +70,7 @@ module _ (c : tie.After-count) where
   known = subst (λ (r : Scan). Scanned r (text (scanned c)) (read-figures (scanned c)) (read-steps (scanned c))) (c .count .given .1) (scanned c .scan-text .ensures)
 
   refused : isListing (P (scanned c)) (w (scanned c)) (d (scanned c)) (text (scanned c)) ≡ false
-      → ((15, 1 ∷ []) ≡ textAnswer (P (scanned c)) (w (scanned c)) (d (scanned c)) (text (scanned c))) × (beta (scanned c) ≡ textLeft (P (scanned c)) (w (scanned c)) (d (scanned c)) (text (scanned c)) (beta (scanned c)))
+      → (answerOf (RefusedAt 15 1) ≡ textAnswer (P (scanned c)) (w (scanned c)) (d (scanned c)) (text (scanned c))) × (beta (scanned c) ≡ textLeft (P (scanned c)) (w (scanned c)) (d (scanned c)) (text (scanned c)) (beta (scanned c)))
   refused f = answer-refused (P (scanned c)) (w (scanned c)) (d (scanned c)) (text (scanned c)) (beta (scanned c)) (known .0) f
 
   -- where the steps do not fit
