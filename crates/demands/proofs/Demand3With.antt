@@ -1,4 +1,5 @@
 -- Demand 3 with records, proved: one claim about every list of filings and withdrawals under one accepted plan, by induction over the list.
+--     keeps-after       what is kept up by a list of calls
 --     demand3-with      the claim
 -- Assumes nothing.
 use mathlib.Core.Path.{_≡_, subst}
@@ -24,7 +25,7 @@ belongs-split G (ours work act ∷ before) later b = let r = belongs-split G bef
 belongs-split G (other G′ F work act ∷ before) later b = let r = belongs-split G before later (b .1) in ((b .0, r .0), r .1)
 
 module _ (G : Given) (accepted : Accepted G) where
-  keeps-after : (cs : List Change) (F : Filled) (K : List Pair) → BelongsWith G cs → Keeps G F K → Keeps G (filledOf G F cs) (keptWith G F K cs)
+  pub keeps-after : (cs : List Change) (F : Filled) (K : List Pair) → BelongsWith G cs → Keeps G F K → Keeps G (filledOf G F cs) (keptWith G F K cs)
   unfolding BelongsWith filledOf keptWith
   keeps-after [] F K b h = h
   keeps-after (ours work act ∷ cs) F K b h =

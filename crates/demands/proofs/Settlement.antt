@@ -1,5 +1,9 @@
--- 02, C-12, after any list of filings under one accepted plan: the store law (`Held`) turns what solves the store into what reproduces the
--- kept entries, and `SettledEntries` of `store` says what the answer means. Assumes nothing.
+-- 02, C-12, after any list of filings, or of filings and withdrawals, under one accepted plan: the store law (`Held`) turns what solves the store into
+-- what reproduces the kept entries, and `SettledEntries` of `store` says what the answer means.
+--     settles             of any store that holds the kept entries
+--     settlement          after a list of filings
+--     settlement-with     after a list of filings and withdrawals
+-- Assumes nothing.
 use mathlib.Core.Path.{_≡_, _∙_}
 use mathlib.Core.List.{List, [], List·Memᴰ}
 use mathlib.Core.Logic.{_↔_, Iff·trans}
@@ -14,15 +18,19 @@ use Rattle.plan.specs.Numbers.{columns, product}
 use Rattle.plan.specs.Parts.{Given}
 use Rattle.plan.specs.declared.admission.Own.the-variants.{Store}
 use Rattle.plan.proofs.Admitting.{accepted-call}
+use Rattle.records.specs.declared.Record.{Record}
 use Rattle.store.specs.Elimination.{cells}
 use Rattle.store.specs.Settled.{Gives, settleOwn, settleCauses}
 use Rattle.store.proofs.ReducedForm.{isReduced-means}
 use Rattle.store.proofs.EntryEquations.{satisfies-exactly}
 use Rattle.store.proofs.SettledEntries.{settled-exactly}
 use Rattle.demands.specs.Demand3.{Accepted, Filing, Belongs, emptyStore, storeOf, keptOf}
-use Rattle.demands.specs.Settlement.{AllGive, settled, Settlement}
+use Rattle.demands.specs.Withdrawals.{Change, BelongsWith, filledOf, keptWith, start}
+use Rattle.demands.specs.Settlement.{AllGive, Settlement, SettledAfter, SettledWith}
 use Rattle.demands.proofs.Turns.{Held, within, held-empty}
 use Rattle.demands.proofs.Lists.{held-after}
+use Rattle.demands.proofs.Keeping.{keeps-start}
+use Rattle.demands.proofs.Demand3With.{keeps-after}
 
 module _ (G : Given) (accepted : Accepted G) (S : List ℕ) (K : List (ℕ × ℕ)) (h : Held G S K) (i : ℕ) where
   -- the coefficients that reproduce the store are those that reproduce the kept entries
@@ -42,19 +50,26 @@ module _ (G : Given) (accepted : Accepted G) (S : List ℕ) (K : List (ℕ × �
       let small : v < G .numbers .p = omega (arith, h .ranges i v m .1, within G accepted .value-high) in
       each i v m ∙ mod-eq-of-lt small
 
-pub settlement : (G : Given) → Accepted G → (fs : List Filing) → Belongs fs → (i : ℕ) → i < product (G .radices) → Settlement G fs i
-unfolding settled
+  pub settles : i < product (G .radices) → Settlement G S K i
+  settles near =
+      let s = settled-exactly G S i (unrefused near) in
+      record {
+        when-forced = λ v. Iff·trans (s .when-forced v) (same-coefficients v);
+        when-free = (
+          (λ f v g. s .when-free .0 f v (same-coefficients v .1 g)),
+          (λ none. s .when-free .1 (λ v g. none v (same-coefficients v .0 g))),
+        );
+        when-kept = λ v m. s .when-forced v .1 (same-coefficients v .1 (kept-given v m));
+      }
+
+pub settlement : (G : Given) → Accepted G → (fs : List Filing) → Belongs fs → (i : ℕ) → i < product (G .radices) → SettledAfter G fs i
 settlement G accepted fs belongs i near =
-    let S = storeOf G (emptyStore G) fs in
-    let K = keptOf G (emptyStore G) fs in
-    let h : Held G S K = held-after G accepted fs (emptyStore G) [] belongs (held-empty G accepted) in
-    let s = settled-exactly G S i (unrefused G accepted S K h i near) in
-    let same = same-coefficients G accepted S K h i in
-    record {
-      when-forced = λ v. Iff·trans (s .when-forced v) (same v);
-      when-free = (
-        (λ f v g. s .when-free .0 f v (same v .1 g)),
-        (λ none. s .when-free .1 (λ v g. none v (same v .0 g))),
-      );
-      when-kept = λ v m. s .when-forced v .1 (same v .1 (kept-given G accepted S K h i v m));
-    }
+    settles G accepted (storeOf G (emptyStore G) fs) (keptOf G (emptyStore G) fs)
+    (held-after G accepted fs (emptyStore G) [] belongs (held-empty G accepted)) i near
+
+pub settlement-with : (G : Given) → Accepted G → (records : List Record) → length records ≡ product (G .radices) → (cs : List Change) → BelongsWith G cs
+    → (i : ℕ) → i < product (G .radices) → SettledWith G records cs i
+settlement-with G accepted records wide cs belongs i near =
+    let F = start G records in
+    settles G accepted (filledOf G F cs .store) (keptWith G F [] cs)
+    (keeps-after G accepted cs F [] belongs (keeps-start G accepted records wide) .held) i near
