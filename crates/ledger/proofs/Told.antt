@@ -1,13 +1,13 @@
 -- What the two calls over a list of numbers tell of the two calls with records: where the list is the records unpacked, and what is left to do of
 -- the records is done, the answer and all that is left are those of specs/Calls. The list counts only where none of causes 1 to 5 refuses; the
--- records are then at most 4096, so the list holds them all, and its pairs are the listed ones.
+-- records are then at most `entriesMost`, so the list holds them all, and its pairs are the listed ones.
 --     file-told, withdraw-told     the number answered; the store, the records and the count; the work store; and the number lent, the pivot column or
 --                                  the value withdrawn
 -- Assumes nothing.
 use mathlib.Core.Path.{_≡_, refl, sym, ap, ap₂, subst, _∙_}
 use mathlib.Core.Bool.{Bool, true, false, cond}
 use mathlib.Core.List.{List, [], _∷_}
-use Prim.Native.Nat.{ℕ, zero, suc, _+_, _-_, _≤_, _<_}
+use Prim.Native.Nat.{ℕ, zero, suc, _+_, _-_, _*_, _≤_, _<_}
 use native.Mathlib.Omega.{arith}
 use lib.ListN.{length, set}
 use Rattle.plan.specs.Causes.{first, result, answer, numberOf}
@@ -21,7 +21,7 @@ use Rattle.records.specs.declared.Record.{Record}
 use Rattle.records.specs.Listed.{recordOf, removedAt, unpacked}
 use Rattle.ledger.specs.Lists.{Pair, has, placeOf, valueOf, without, filedOn}
 use Rattle.ledger.specs.Calls.{Filled, filled, listed, recordOwn, withdrawOwn, ownOf, withdrawCauses, joined, withdrawn, recordAnswer, recordAfter, withdrawAnswer, withdrawAfter, workAfter}
-use Rattle.ledger.specs.Stages.{pairs, countAfter, placeAfter, placed, takenBy, recordRefusal, withdrawRefusal, FiledListed, WithdrawnListed}
+use Rattle.ledger.specs.Stages.{entriesMost, pairs, countAfter, placeAfter, placed, takenBy, recordRefusal, withdrawRefusal, FiledListed, WithdrawnListed}
 use Rattle.ledger.specs.declared.calls.Placed.{Placed}
 use Rattle.ledger.specs.declared.calls.Taken.{Taken}
 use Rattle.records.proofs.Removals.{set-past, removed-there, removed-above}
@@ -46,7 +46,7 @@ module _ (G : Given) (S work : List ℕ) (records : List Record) (count : ℕ) w
   F = filled S records count
 
   -- the pairs that are read, and those that the records are
-  module _ (list : List ℕ) (long : length list ≡ 8192) where
+  module _ (list : List ℕ) (long : length list ≡ 2 * entriesMost) where
     abbrev read : List Pair
     read = pairs count (unpacked (length records) 0 records list)
 
@@ -89,7 +89,7 @@ module _ (G : Given) (S work : List ℕ) (records : List Record) (count : ℕ) w
       ap (λ (X : List ℕ). filled X records′ count′) stored ∙ ap₂ (λ (X : List Record) (c : ℕ). filled S X c) now counted
 
   pub file-told : (list₀ list : List ℕ) (size i v column : ℕ) (r : Placed) (S′ work′ : List ℕ) (count′ column′ : ℕ) (records′ : List Record)
-      → length list₀ ≡ 8192 → size ≡ length records → list ≡ unpacked (length records) 0 records list₀
+      → length list₀ ≡ 2 * entriesMost → size ≡ length records → list ≡ unpacked (length records) 0 records list₀
       → FiledListed G S work list size count i v column r S′ work′ count′ column′ → records′ ≡ set records (r .«at») (recordOf (r .entry) (r .value))
       → (r .number ≡ numberOf (recordAnswer G F work i v)) × (filled S′ records′ count′ ≡ recordAfter G F work i v)
       × (work′ ≡ workAfter G (ownOf F work) work) × (column′ ≡ columnOf (recordAnswer G F work i v) (columns (G .numbers)) column)
@@ -132,7 +132,7 @@ module _ (G : Given) (S work : List ℕ) (records : List Record) (count : ℕ) w
   value-by i value (suc k) l same = refl
 
   pub withdraw-told : (list₀ list : List ℕ) (size i value : ℕ) (r : Taken) (S′ work′ : List ℕ) (count′ value′ : ℕ) (records′ : List Record)
-      → length list₀ ≡ 8192 → size ≡ length records → list ≡ unpacked (length records) 0 records list₀
+      → length list₀ ≡ 2 * entriesMost → size ≡ length records → list ≡ unpacked (length records) 0 records list₀
       → WithdrawnListed G S work list size count i value r S′ work′ count′ value′ → records′ ≡ removedAt records (r .count) (r .«at»)
       → (r .number ≡ numberOf (withdrawAnswer G F work i)) × (filled S′ records′ count′ ≡ withdrawAfter G F work i)
       × (work′ ≡ workAfter G (ownOf F work) work) × (value′ ≡ result (first (withdrawCauses G F work i)) (valueOf (listed F) i) value)

@@ -1,4 +1,5 @@
 -- What the functions inside the calls with records compute, over a list of numbers that holds the records, two numbers each. Stands on `Lists`.
+--     entriesMost            the most entries that a plan has, and so the most records
 --     pairsFrom k i list     k pairs of a list of numbers, from pair i on
 --     pairs count list       the first count of them
 --     ranged n s l           each entry is below n, and each value below s, as a test
@@ -25,6 +26,10 @@ use Rattle.ledger.specs.Lists.{Pair, has, placeOf, valueOf, without, fil
 use Rattle.ledger.specs.Calls.{recordOwn, withdrawOwn, lentOwn, workAfter}
 use Rattle.ledger.specs.declared.calls.Placed.{Placed}
 use Rattle.ledger.specs.declared.calls.Taken.{Taken}
+
+-- 01, "s^n is at most 4,096", which cause 3 keeps (`limit` of `plan/specs/Numbers`); in code it is `Plan::ENTRIES`
+abbrev pub entriesMost : ℕ
+entriesMost = 4096
 
 unfoldable pub pairsFrom : ℕ → ℕ → List ℕ → List Pair
 pairsFrom zero i list = []

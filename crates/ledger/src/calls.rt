@@ -1,12 +1,11 @@
 // The two calls over a list of numbers that holds the records: any numbers and bytes are taken. Each tests the causes it can meet in number
 // order, clears the work store where it passes cause 5, and leaves the store and the count where it refuses.
 ghost use mathlib.Core.Path.{_≡_};
-ghost use mathlib.Core.List.{[], _∷_};
-ghost use Prim.Native.Nat.{_*_, _-_, _≤_, _<_};
+ghost use Prim.Native.Nat.{_*_, _≤_, _<_};
 ghost use lib.ListN.{length};
-ghost use Rattle.plan.specs.Causes.{first, result, answer};
-ghost use Rattle.plan.specs.Numbers.{Within, columns, plan as planOf};
-ghost use Rattle.plan.specs.Parts.{lend, given, Lent, storeSize, callCauses};
+ghost use Rattle.plan.specs.Causes.{first, result};
+ghost use Rattle.plan.specs.Numbers.{Within, columns};
+ghost use Rattle.plan.specs.Parts.{lend, given, Lent, storeSize};
 ghost use Rattle.store.specs.Calls as stores;
 ghost use Rattle.ledger.specs.Lists as lists;
 ghost use Rattle.ledger.specs.Calls as calls;
@@ -78,7 +77,7 @@ fn file_sound(
 // An accepted entry that is not listed joins the end of the list.
 fn place(list: &[u16], size: usize, count: &mut usize, entry: usize, value: usize) -> Placed
     requires { ⌜ 2 * now count ≤ length (now list) ⌝ }
-    requires { ⌜ now count ≤ 4096 ⌝ }
+    requires { ⌜ now count ≤ stages.entriesMost ⌝ }
     requires { ⌜ (entry < 65536) × (value < 65536) ⌝ }
     ensures { λ r. ⌜ now (count .exit) ≡ stages.countAfter (stages.pairs (now (count .entry)) (now (list .entry))) (now (count .entry)) entry ⌝ }
     ensures { λ r. ⌜ r ≡ stages.placed 0 (stages.placeAfter (stages.pairs (now (count .entry)) (now (list .entry))) size (now (count .entry)) entry) entry value ⌝ }
@@ -118,7 +117,7 @@ pub fn file_listed(
     value: usize,
     column: &mut usize,
 ) -> Placed
-    requires { ⌜ length (now list) ≡ 8192 ⌝ }
+    requires { ⌜ length (now list) ≡ 2 * stages.entriesMost ⌝ }
     ensures { λ r. ⌜ stages.FiledListed (given p s n m t (now (radices .entry)) (now (weights .entry)) (now (tables .entry)) (now (d .entry))) (now (store .entry)) (now (work .entry)) (now (list .entry)) size (now (count .entry)) entry value (now (column .entry)) r (now (store .exit)) (now (work .exit)) (now (count .exit)) (now (column .exit)) ⌝ }
 {
     let listed = *count;
@@ -254,7 +253,7 @@ pub fn withdraw_listed(
     entry: usize,
     value: &mut u16,
 ) -> Taken
-    requires { ⌜ length (now list) ≡ 8192 ⌝ }
+    requires { ⌜ length (now list) ≡ 2 * stages.entriesMost ⌝ }
     ensures { λ r. ⌜ stages.WithdrawnListed (given p s n m t (now (radices .entry)) (now (weights .entry)) (now (tables .entry)) (now (d .entry))) (now (store .entry)) (now (work .entry)) (now (list .entry)) size (now (count .entry)) entry (now (value .entry)) r (now (store .exit)) (now (work .exit)) (now (count .exit)) (now (value .exit)) ⌝ }
 {
     let listed = *count;

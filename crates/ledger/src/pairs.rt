@@ -5,12 +5,13 @@ ghost use Prim.Native.Nat.{_*_, _≤_};
 ghost use lib.ListN.{length, replicate};
 ghost use Rattle.ledger.specs.Lists as lists;
 ghost use Rattle.ledger.specs.Stages as stages;
+use plan::Plan;
 
 // Room for the records of every plan.
-pub fn list_buffer() -> [u16; 8192]
-    ensures { λ r. ⌜ length r ≡ 8192 ⌝ }
+pub fn list_buffer() -> [u16; 2 * Plan::ENTRIES]
+    ensures { λ r. ⌜ length r ≡ 2 * stages.entriesMost ⌝ }
 {
-    [0; 8192]
+    [0; 2 * Plan::ENTRIES]
 }
 
 // Whether each entry is below n, each value below s, and no entry stands twice. `seen` has a mark for each entry, none of them set.

@@ -1,7 +1,6 @@
 // Filing a whole list on an empty store, and cause 16.
 ghost use mathlib.Core.Path.{_≡_};
 ghost use mathlib.Core.Bool.{true};
-ghost use mathlib.Core.List.{[], _∷_};
 ghost use Prim.Native.Nat.{_*_, _+_, _≤_, _<_};
 ghost use lib.ListN.{length};
 ghost use Rattle.lists.specs.Places.{at};
@@ -106,7 +105,7 @@ pub fn is_sound(
     ensures { λ r. ⌜ r ≡ lists.sound (lend plan (now (radices .entry)) (now (weights .entry)) (now (tables .entry)) (now (d .entry))) (now (store .entry)) (stages.pairs count (now (list .entry))) ⌝ }
 {
     let n = plan.entries(radices);
-    let mut seen: [u8; 4096] = [0; 4096];
+    let mut seen = [0u8; Plan::ENTRIES];
     if !well_listed(list, count, n, plan.s, &mut seen) {
         return false;
     }

@@ -17,7 +17,7 @@ use Rattle.store.specs.Calls.{emptyStore, outcomeOf, valuesOf, filed}
 use Rattle.store.specs.Calls as stores
 use Rattle.store.proofs.StoreCalls.{cleared-work}
 use Rattle.ledger.specs.Calls.{recordOwn, lentOwn, workAfter}
-use Rattle.ledger.specs.Stages.{pairs, recordRefusal}
+use Rattle.ledger.specs.Stages.{entriesMost, pairs, recordRefusal}
 use Rattle.ledger.proofs.Endings.{Parts, parts-of, in-range, left-alone, refused-filing, kept-filing}
 use Rattle.ledger.proofs.calls.file_listed.Statement.{statement}
 use Rattle.ledger.proofs.calls.file_listed.Tie as tie
@@ -94,7 +94,7 @@ worked c long =
 abbrev Fits : tie.Start → Type 0
 Fits s =
     let a = s .args in
-    (2 * a .count .now ≤ length (a .list .now)) × ((a .count .now ≤ 4096) × ((a .entry < 65536) × (a .value < 65536)))
+    (2 * a .count .now ≤ length (a .list .now)) × ((a .count .now ≤ entriesMost) × ((a .entry < 65536) × (a .value < 65536)))
 
 fits : (c : tie.After-slice-known6) (ws : List ℕ) → stores.answerOf (c .before .before .before .before .before .before .before .before .file-sound .result) ≡ gives ws
     → Fits (began c)

@@ -18,7 +18,7 @@ use Rattle.store.specs.Calls.{emptyStore}
 use Rattle.store.proofs.StoreCalls.{cleared-work}
 use Rattle.ledger.specs.Lists.{has, placeOf, without, filedOn}
 use Rattle.ledger.specs.Calls.{withdrawOwn, lentOwn, workAfter}
-use Rattle.ledger.specs.Stages.{pairs, takenBy, withdrawRefusal}
+use Rattle.ledger.specs.Stages.{entriesMost, pairs, takenBy, withdrawRefusal}
 use Rattle.ledger.specs.declared.calls.Taken.{Taken}
 use Rattle.ledger.proofs.Soundness.{place-below, read-length, value-at}
 use Rattle.ledger.proofs.Endings.{Parts, parts-of, left-alone, refused-taking, taken-facts, found, refused-withdrawal, made-withdrawal}
@@ -100,7 +100,7 @@ pub record Made (c : tie.After-slice-known6) : Type 0 where
   pub place : c .before .before .before .before .before .before .before .before .withdraw-sound .result .«at» ≡ placeOf (pairs (began c .args .count .now) (began c .args .list .now)) (began c .args .entry)
   pub listed : has (pairs (began c .args .count .now) (began c .args .list .now)) (began c .args .entry) ≡ true
   pub near : c .before .before .before .before .before .before .before .before .withdraw-sound .result .«at» < began c .args .count .now
-  pub few : began c .args .count .now ≤ 4096
+  pub few : began c .args .count .now ≤ entriesMost
 
 made : (c : tie.After-slice-known6) → c .before .before .before .before .before .before .before .before .withdraw-sound .result .number ≡ 0 → Made c
 made c zero =
