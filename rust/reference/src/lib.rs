@@ -35,6 +35,9 @@
 //! records, which from cause 6 on is left all zeros. A store is in the new layout
 //! of 02, C-16, and a full store in that of 01; [`halved`] and [`widened`] turn
 //! the bytes of one into those of the other without a test.
+//!
+//! [`vectors`] reads the test vectors, files of calls, and makes what has to be
+//! printed for them.
 
 // Entry points take the plan's numbers and parts one by one, as the library's do.
 #![allow(clippy::too_many_arguments)]
@@ -53,6 +56,7 @@ mod records;
 mod row;
 mod store;
 mod text;
+pub mod vectors;
 
 pub use field::{inverse, is_odd_prime};
 pub use general::{general, General};
