@@ -5,18 +5,14 @@ mod common;
 use celerycrag::raw;
 use common::lots::pairs;
 use common::plans::{outline, Owned};
-use common::program::program;
+use common::program::prints;
 use common::random::{cases, Random};
 use common::tally::Tally;
 use common::texts::{radices, spoil, text};
 use common::twins;
 use std::collections::BTreeSet;
 use std::fs;
-use std::io::{ErrorKind, Write};
 use std::path::{Path, PathBuf};
-use std::process::{Child, Command, Stdio};
-use std::thread;
-use std::time::Duration;
 
 const ROOT: &str = concat!(env!("CARGO_MANIFEST_DIR"), "/../..");
 /// The refusals that a text can meet.
@@ -50,43 +46,6 @@ const MIXED: [([usize; 5], &[u8]); 6] = [
     ([241, 3, 2, 49, 4], &[17, 241]),
     ([3, 3, 11, 6, 14], &[2, 2, 2, 2, 2, 3, 2, 2, 2, 2, 2]),
 ];
-
-/// The program, started, with pipes to and from it.
-fn start() -> Child {
-    let pipes = Command::new(program())
-        .stdin(Stdio::piped())
-        .stdout(Stdio::piped())
-        .stderr(Stdio::piped())
-        .spawn();
-    pipes.expect("the program, started")
-}
-
-/// What the program prints for a text that comes in these pieces. It has to
-/// end normally and to leave standard error alone.
-fn prints(pieces: &[&[u8]]) -> Vec<u8> {
-    let mut program = start();
-    let mut input = program.stdin.take().expect("a pipe");
-    let output = thread::scope(|scope| {
-        scope.spawn(move || {
-            for (k, piece) in pieces.iter().enumerate() {
-                if k > 0 {
-                    // Time for the program to take the piece before alone; it
-                    // is no matter where it does not.
-                    thread::sleep(Duration::from_micros(1));
-                }
-                match input.write_all(piece) {
-                    // A refused text need not be read to its end.
-                    Err(error) if error.kind() == ErrorKind::BrokenPipe => break,
-                    written => written.expect("a piece written"),
-                }
-            }
-        });
-        program.wait_with_output().expect("the program's output")
-    });
-    assert!(output.status.success(), "{}", output.status);
-    assert_eq!(output.stderr.escape_ascii().to_string(), "");
-    output.stdout
-}
 
 /// That the program prints what the reference does for a text that comes in
 /// these pieces; what that is.
