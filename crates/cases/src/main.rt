@@ -1,6 +1,6 @@
-// The cases of 01 that are left to programs, the extremes of each number, each refusal of each call, and pairs of causes in one call: an
-// interpreter of the test vectors in `stdin`. README.md beside src/ says what each line means and what is printed; `stdout` has what that
-// must be, made by rust/reference/examples/cases.
+// The cases of 01 that are left to programs, the extremes of each number, the causes of the calls, and pairs of causes in one call: an
+// interpreter of the test vectors in `stdin`. README.md beside src/ says what each line means, what is printed, and which calls are not among
+// them; `stdout` has what that must be, made by rust/reference/examples/cases.
 //
 // A command is known by its place among the words in `read`, from 0. `args` has the numbers of the line. `held` has p s n m t, then at 5 the
 // length of the step slice, at 6 the count of the line's numbers, and from 8 the lengths of the byte parts: the text, radices, weights,
