@@ -93,7 +93,7 @@
  * output lends a list of records beside the store: an entry and its value each, as
  * many records as the plan has entries, and a count. The records before the count
  * are the list, in the order in which the entries were kept; what is behind the
- * count is not looked at. celery_file_recorded files an entry and puts it at the
+ * count does not matter. celery_file_recorded files an entry and puts it at the
  * end of the list, where it is not there yet. celery_withdraw takes an entry out,
  * and leaves the store that filing the remaining list on an empty one gives. So an
  * entry that was implied when it was filed can carry the store later: where the
@@ -106,6 +106,15 @@
  * together with the entries kept before it; and the coefficients of the store
  * reproduce all entries kept after the last call. A filing that was accepted has
  * been kept, though its entry be withdrawn later.
+ *
+ * A withdrawn entry can be filed with another value only where the remaining
+ * entries leave it open. celery_settle on the store tells. Free: any value below s
+ * will do. Forced: that residue alone, if it is below s; every other value below s
+ * is refused with 9. Then either other entries are to be corrected too: withdraw
+ * those of which the entry's row is a combination, until it is free, which it never
+ * is where its row is all zero. Or the table needs another plan, with more columns;
+ * under a general plan every entry that is not listed is free, see GENERAL PLANS.
+ * With its old value the entry can always be filed again.
  *
  * The list is tested on each call, against the store (16): no entry is named
  * twice, each is accepted when they are filed in order on an empty store, and that
@@ -153,6 +162,23 @@
  * is lent, multiplications, each with the reduction of its product by a
  * reciprocal of p where there is one, and divisions. What is done once for each
  * digit, link, product or row is left out.
+ *
+ * The two calls with records copy these before the plan is tested, and so before
+ * cause 1: all that are lent, those behind the count too, up to 4,096, and what is
+ * lent beyond is stepped over one by one. So every refusal of theirs has cost that
+ * much: some microseconds for 4,096 records.
+ *
+ *
+ * STACK
+ *
+ * The library works on the stack of its caller. CELERY_STACK_.. below has the most
+ * that each call takes on any of its ways, its arguments included: measured, and
+ * rounded up by 100 to 200 bytes, against what another compiler of the host may
+ * take for the arguments. A thread that makes the call needs so much beyond what
+ * the host takes up to there. The C library's memcpy and memset, which are all that
+ * is called outside, are in it, but not the loader: in a program that binds
+ * functions when they are first called, that takes some 3,000 bytes more at the
+ * first call of each of the two. Linked with -z now, it does not.
  */
 #ifndef CELERYCRAG_H
 #define CELERYCRAG_H
@@ -216,6 +242,27 @@ enum celery_refusal {
     ((m) * ((n) + 2) + (m) * ((m) - 1) / 2 + 1 +                         \
      (t) * (2 * CELERY_VARIABLES(n, m) + 12) + CELERY_VARIABLES(n, m))
 #define CELERY_STEPS_LEN(n, m, t) (4 * CELERY_STEP_COUNT(n, m, t))
+
+/* The stack that each call takes at most, in bytes, see STACK. */
+enum celery_stack {
+    CELERY_STACK_CHECK = 600,
+    CELERY_STACK_ROW = 700,
+    CELERY_STACK_TEST = 1600,
+    CELERY_STACK_FILE = 10100,
+    CELERY_STACK_FILE_RECORDED = 30900,
+    CELERY_STACK_WITHDRAW = 30900,
+    CELERY_STACK_COEFFICIENTS = 1600,
+    CELERY_STACK_SETTLE = 8900,
+    CELERY_STACK_GENERAL = 10000,
+    CELERY_STACK_TO_HALF = 1800,
+    CELERY_STACK_TO_FULL = 1700,
+    CELERY_STACK_CHECK_WRITING = 700,
+    CELERY_STACK_WRITE = 700,
+    CELERY_STACK_RUN = 900,
+    CELERY_STACK_WORST_NORM = 700,
+    CELERY_STACK_READ_STEPS = 36200,
+    CELERY_STACK_READ_LISTING = 70800
+};
 
 /* An entry and its value, see RECORDS. */
 struct celery_record {
@@ -291,7 +338,8 @@ uint8_t celery_file(CELERY_PLAN, uint8_t *store, size_t store_len,
  * Files an entry with its value as celery_file does, beside records, see RECORDS.
  * Accepted, an entry that is not listed joins the end of the list with its value,
  * also where the store implied it. Filing a listed entry again with its value finds
- * it implied and leaves the list; every other value is refused with 9.
+ * it implied and leaves the list; every other value below s is refused with 9, and
+ * s and more with 8.
  *
  * The list is refused with 16 where it names an entry twice, or where an entry of
  * it is refused when they are filed in order on the work store, which is cleared
@@ -312,8 +360,7 @@ uint8_t celery_file(CELERY_PLAN, uint8_t *store, size_t store_len,
  *          on work, for each entry what celery_file costs without celery_test: up
  *          to a few milliseconds for some hundred entries, and up to a few tenths
  *          of a second for 4,096 with C = 1,024. A host that fills a large table
- *          may file it with celery_file, and write the records itself. About
- *          27,000 bytes of stack.
+ *          may file it with celery_file, and write the records itself.
  */
 uint8_t celery_file_recorded(CELERY_PLAN, uint8_t *store, size_t store_len,
                              uint8_t *work, size_t work_len,
@@ -335,7 +382,7 @@ uint8_t celery_file_recorded(CELERY_PLAN, uint8_t *store, size_t store_len,
  *          5 refuses, also where another does.
  * Cost:    celery_test, and the list is filed twice: on work, to test it, and
  *          without the entry on the store, once that is cleared. About twice what
- *          celery_file_recorded costs, and 32,000 bytes of stack.
+ *          celery_file_recorded costs.
  */
 uint8_t celery_withdraw(CELERY_PLAN, uint8_t *store, size_t store_len,
                         uint8_t *work, size_t work_len,
@@ -359,12 +406,13 @@ uint8_t celery_coefficients(CELERY_PLAN, const uint8_t *store, size_t store_len,
  * Tells whether an entry is settled by what the store holds, be it kept or not.
  *
  * Forced: all beta that reproduce the store give the entry one residue. Filing
- * it with that value finds it implied, and every other value is refused with 9.
- * Of a kept entry it is the value. The residue may be s or more; then every
- * value is refused. An entry whose row is all zero is forced to 0 by any store.
+ * it with that value finds it implied, every other value below s is refused with
+ * 9, and s and more with 8. Of a kept entry it is the value. The residue may be s
+ * or more; then every value is refused. An entry whose row is all zero is forced
+ * to 0 by any store.
  *
- * Free: they do not. Filing the entry finds it new, whatever the value, with
- * its pivot in the column told here: the first in which its row is not zero
+ * Free: they do not. Filing the entry finds it new, whatever the value below s,
+ * with its pivot in the column told here: the first in which its row is not zero
  * once the rows of the store have cleared it.
  *
  * Lent:    store, C (C + 1) / 2 + C bytes; entry, any number; residue; column.
@@ -514,7 +562,7 @@ uint8_t celery_worst_norm(CELERY_PLAN, const uint8_t *beta, size_t beta_len,
  * Causes:  1 2 3 4 5, 15.
  * Writes:  all of beta.
  * Cost:    the program is written once more, and compared with steps in one
- *          pass. About 36,000 bytes of stack.
+ *          pass.
  */
 uint8_t celery_read_steps(CELERY_PLAN, const uint16_t *steps, size_t steps_len,
                           uint8_t *beta, size_t beta_len);
@@ -546,7 +594,7 @@ uint8_t celery_read_steps(CELERY_PLAN, const uint16_t *steps, size_t steps_len,
  * Cost:    one pass over the text, which judges its lines and reads their
  *          numbers; then what celery_read_steps and celery_worst_norm cost.
  *          Nothing is printed again: a number has one way to be written, so the
- *          numbers tell the text. About 71,000 bytes of stack.
+ *          numbers tell the text.
  */
 uint8_t celery_read_listing(CELERY_PLAN, const uint8_t *text, size_t text_len,
                             uint8_t *beta, size_t beta_len, size_t *line);

@@ -7,8 +7,8 @@
  * lent as a null pointer, the coefficients are read back from the program and
  * from its listing, stores are moved from the full layout and back, plans are
  * asked whether they are general, and one output of the table is corrected: its
- * entry is withdrawn and filed anew. It is C and C++. Prints "ok", or the line at
- * fault.
+ * entry is withdrawn and filed anew, which another plan does not allow until a
+ * second entry is withdrawn. It is C and C++. Prints "ok", or the line at fault.
  */
 #include "celerycrag.h"
 
@@ -774,6 +774,46 @@ static int corrected(void)
     return 0;
 }
 
+/* One digit of radix 5 with p = 5 and s = 5: entry x is x times the one coefficient. */
+#define TIMES 5, 5, 1, 0, 0, five, sizeof five, NONE, NONE, NONE
+
+/*
+ * A withdrawn entry that the other one forces: only its old value is accepted,
+ * until the other is withdrawn too. Answers 0, or prints the line at fault.
+ */
+static int stays_forced(void)
+{
+    uint8_t store[CELERY_STORE_LEN(1, 0, 0)] = {0}, work[CELERY_STORE_LEN(1, 0, 0)] = {0}, residue = 255;
+    struct celery_record records[5] = {{0, 0}};
+    uint16_t old = 999;
+    size_t count = 0, column = 999, value;
+#define KEPT store, sizeof store, work, sizeof work, records, 5, &count
+
+    CHECK(celery_file_recorded(TIMES, KEPT, 1, 2, &column) == CELERY_ACCEPTED && column == 0);
+    CHECK(celery_file_recorded(TIMES, KEPT, 3, 1, &column) == CELERY_ACCEPTED && column == 1);
+    CHECK(celery_withdraw(TIMES, KEPT, 3, &old) == CELERY_ACCEPTED && old == 1 && count == 1);
+
+    /* Entry 1 is 2, so that entry 3 is 6, which is 1. */
+    CHECK(celery_settle(TIMES, store, sizeof store, 3, &residue, &column) == CELERY_ACCEPTED);
+    CHECK(residue == 1 && column == 1);
+    for (value = 0; value < 7; value++)
+        if (value != old)
+            CHECK(celery_file_recorded(TIMES, KEPT, 3, value, &column) ==
+                  (value < 5 ? CELERY_CONTRADICTION : CELERY_NO_VALUE));
+    CHECK(celery_file_recorded(TIMES, KEPT, 3, old, &column) == CELERY_ACCEPTED && count == 2);
+    CHECK(celery_withdraw(TIMES, KEPT, 3, &old) == CELERY_ACCEPTED && count == 1);
+
+    /* Without entry 1 it is free, and then decides entry 1: with 2 for entry 3 the coefficient is 4. */
+    CHECK(celery_withdraw(TIMES, KEPT, 1, &old) == CELERY_ACCEPTED && old == 2 && count == 0);
+    CHECK(celery_settle(TIMES, store, sizeof store, 3, &residue, &column) == CELERY_ACCEPTED);
+    CHECK(residue == 5 && column == 0);
+    CHECK(celery_file_recorded(TIMES, KEPT, 3, 2, &column) == CELERY_ACCEPTED && column == 0);
+    CHECK(celery_file_recorded(TIMES, KEPT, 1, 2, &column) == CELERY_CONTRADICTION);
+    CHECK(celery_file_recorded(TIMES, KEPT, 1, 4, &column) == CELERY_ACCEPTED && column == 1 && count == 2);
+#undef KEPT
+    return 0;
+}
+
 /*
  * Empty parts as null pointers: those of a plan without links and products, an
  * empty list of steps, and any part of a call that is refused for its length.
@@ -906,7 +946,7 @@ int main(void)
     CHECK(settle(store, 4, CELERY_DAMAGED, 0, 0)); /* 6 before 7 */
 
     if (days_of_a_month() != 0 || settled_beyond_s() != 0 || empty_parts() != 0 || read_back() != 0 || moved() != 0 ||
-        general_plans() != 0 || corrected() != 0)
+        general_plans() != 0 || corrected() != 0 || stays_forced() != 0)
         return 1;
 
     puts("ok");

@@ -30,9 +30,9 @@ pub enum Settled {
     /// this residue.
     ///
     /// Filing the entry with this residue as its value is answered
-    /// [`Filed::Implied`], and every other value is a contradiction. Of a kept
-    /// entry it is the value. It is below p, and may be s or more: then no
-    /// value can be filed for the entry.
+    /// [`Filed::Implied`], and every other value below s is a contradiction. Of
+    /// a kept entry it is the value. It is below p, and may be s or more: then
+    /// no value can be filed for the entry.
     Forced {
         /// The residue, below p.
         residue: u8,
