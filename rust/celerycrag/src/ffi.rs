@@ -1,6 +1,6 @@
 //! The C interface of the proved library, as `include/celerycrag.h` has it.
-//! Nothing compares these lines with the library's source: the random tests
-//! are what stands between a slip here and a host.
+//! tests/prototypes.rs compares these lines with the header and with the
+//! library's source. It reads this file as a text: the macro, and the calls.
 
 use crate::Record;
 
