@@ -2,7 +2,7 @@
 //! withdrawn.
 
 use crate::store::filed;
-use crate::{raw, Filed, Plan, Refusal, Store};
+use crate::{raw, Filed, Plan, Refusal, Store, StoreRefusal};
 
 /// An entry and its value, as the library keeps them in a list.
 #[derive(Clone, Copy, Debug, Default, PartialEq, Eq, Hash)]
@@ -19,10 +19,12 @@ pub struct Record {
 ///
 /// A [`Store`] cannot tell which entries it was made of, so nothing can be
 /// taken out of it. A ledger can correct a single output: the entry is
-/// withdrawn and filed anew. Its store is always the one that filing its list
-/// on an empty store gives, and what it promises is that of a store: a filing
-/// is refused with 9 exactly when no coefficients reproduce it together with
-/// the entries listed, and the coefficients reproduce every entry listed.
+/// withdrawn and filed anew, where the others leave it open, see
+/// [`Ledger::withdraw`]. Its store is always the one that filing its list on an
+/// empty store gives, and what it promises is that of a store: a filing of a
+/// value below s is refused with 9 exactly when no coefficients reproduce it
+/// together with the entries listed, and the coefficients reproduce every entry
+/// listed.
 ///
 /// ```
 /// use celerycrag::{Filed, Ledger, Plan, Program, Refusal, Shape};
@@ -35,7 +37,7 @@ pub struct Record {
 ///     ledger.file(entry, value)?;
 /// }
 ///
-/// // The output of entry 1 was meant to be 0.
+/// // The output of entry 1 was meant to be 0; the others leave it open.
 /// assert_eq!(ledger.file(1, 0), Err(Refusal::CONTRADICTION));
 /// assert_eq!(ledger.withdraw(1)?, 1);
 /// assert_eq!(ledger.count(), 3);
@@ -80,7 +82,8 @@ impl Ledger {
     /// the list of its entries, which is tested.
     ///
     /// Any list will do that gives this store, in any order, also with entries
-    /// that the others imply.
+    /// that the others imply. Where the list is refused, the store comes back
+    /// with the refusal, as it was.
     ///
     /// ```
     /// use celerycrag::{Ledger, Plan, Record, Refusal, Shape, Store};
@@ -98,9 +101,11 @@ impl Ledger {
     /// assert_eq!(ledger.entries(), list);
     /// assert_eq!(ledger.withdraw(3)?, 0);
     ///
-    /// // Without entry 3 this would be another store.
-    /// let fewer = Ledger::from_store(store, &list[..3]);
-    /// assert_eq!(fewer, Err(Refusal::RECORDS));
+    /// // Without entry 3 this would be another store, so it comes back.
+    /// let bytes = store.as_bytes().to_vec();
+    /// let turned_down = Ledger::from_store(store, &list[..3]).unwrap_err();
+    /// assert_eq!(turned_down.refusal(), Refusal::RECORDS);
+    /// assert_eq!(turned_down.into_store().as_bytes(), bytes);
     /// # Ok(())
     /// # }
     /// ```
@@ -109,8 +114,8 @@ impl Ledger {
     /// Cause 4 where there are more records than entries, 16 where the list is
     /// not one of this store: it names an entry twice, or an entry of it is
     /// refused when they are filed in order on an empty store, or that gives
-    /// another store.
-    pub fn from_store(store: Store, list: &[Record]) -> Result<Ledger, Refusal> {
+    /// another store. Each with the store: [`StoreRefusal::into_store`].
+    pub fn from_store(store: Store, list: &[Record]) -> Result<Ledger, StoreRefusal> {
         let plan = store.plan().clone();
         let mut ledger = Ledger {
             store,
@@ -121,12 +126,15 @@ impl Ledger {
             *record = listed;
         }
         // The list is asked about before the entry: to withdraw what no plan
-        // has as an entry is refused with 7 where the list is in order.
-        match ledger.withdraw(usize::MAX) {
-            Err(Refusal::NO_ENTRY) => Ok(ledger),
-            Err(refusal) => Err(refusal),
-            Ok(_) => Err(Refusal::RECORDS),
-        }
+        // has as an entry is refused with 7 where the list is in order. So it is
+        // always refused, which leaves the store as it was.
+        let refusal = match ledger.withdraw(usize::MAX) {
+            Err(Refusal::NO_ENTRY) => return Ok(ledger),
+            Err(refusal) => refusal,
+            Ok(_) => Refusal::RECORDS,
+        };
+        let store = ledger.into_store();
+        Err(StoreRefusal { refusal, store })
     }
 
     /// The plan that the ledger belongs to.
@@ -188,8 +196,19 @@ impl Ledger {
     /// An entry that was implied when it was filed can carry the store from
     /// then on.
     ///
+    /// # Filing it with another value
+    ///
+    /// The withdrawn entry can have another value where the remaining ones leave
+    /// it open, as [`Store::settled`] on [`Ledger::store`] tells. Free: any value
+    /// below s is accepted. Forced: that residue alone, if it is below s, and
+    /// every other value below s is refused with 9. Then withdraw other entries
+    /// that are to be corrected too, of which its row is a combination, until it
+    /// is free; or file the table under another plan, with more columns: under a
+    /// general one, see [`Plan::is_general`], every entry that is not listed is
+    /// free. With its old value the entry can always be filed again.
+    ///
     /// ```
-    /// use celerycrag::{Filed, Ledger, Plan, Refusal, Shape};
+    /// use celerycrag::{Filed, Ledger, Plan, Refusal, Settled, Shape};
     ///
     /// # fn main() -> Result<(), Refusal> {
     /// // The value of a digit is the digit times the one coefficient.
@@ -198,11 +217,22 @@ impl Ledger {
     /// assert_eq!(ledger.file(1, 2)?, Filed::New { column: 0 });
     /// assert_eq!(ledger.file(3, 1)?, Filed::Implied);
     ///
+    /// // Entry 1 alone forces entry 3 to 1.
+    /// assert_eq!(ledger.withdraw(3)?, 1);
+    /// assert_eq!(ledger.store().settled(3)?, Settled::Forced { residue: 1 });
+    /// assert_eq!(ledger.file(3, 2), Err(Refusal::CONTRADICTION));
+    /// assert_eq!(ledger.file(3, 1)?, Filed::Implied);
+    ///
+    /// // Without entry 1, entry 3 carries the store.
     /// assert_eq!(ledger.withdraw(1)?, 2);
     /// assert_eq!(ledger.store().coefficients()?, [2]);
     /// assert_eq!(ledger.withdraw(1), Err(Refusal::NOT_LISTED));
+    ///
+    /// // Once both are withdrawn, it is free.
     /// assert_eq!(ledger.withdraw(3)?, 1);
-    /// assert_eq!(ledger.store().coefficients()?, [0]);
+    /// assert_eq!(ledger.store().settled(3)?, Settled::Free { column: 0 });
+    /// assert_eq!(ledger.file(3, 2)?, Filed::New { column: 0 });
+    /// assert_eq!(ledger.store().coefficients()?, [4]);
     /// # Ok(())
     /// # }
     /// ```

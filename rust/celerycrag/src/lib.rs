@@ -155,11 +155,13 @@
 //! # Correcting an output
 //!
 //! A [`Ledger`] keeps the list of entries beside the store:
-//! [`Ledger::withdraw`] takes one out, as if it had never been filed, and it
-//! can be filed with another value.
+//! [`Ledger::withdraw`] takes one out, as if it had never been filed. It can
+//! then be filed with another value, where the entries that remain leave it
+//! free; [`Store::settled`] tells, and [`Ledger::withdraw`] says what to do where
+//! they do not.
 //!
 //! ```
-//! use celerycrag::{Ledger, Plan, Record, Refusal, Shape};
+//! use celerycrag::{Ledger, Plan, Record, Refusal, Settled, Shape};
 //!
 //! # fn main() -> Result<(), Refusal> {
 //! let shape = Shape { p: 3, s: 2, n: 2, m: 0, t: 1 };
@@ -172,6 +174,7 @@
 //!
 //! // Entry 3 is 1 from now on: the inclusive or.
 //! assert_eq!(ledger.withdraw(3)?, 0);
+//! assert_eq!(ledger.store().settled(3)?, Settled::Free { column: 2 });
 //! ledger.file(3, 1)?;
 //! assert_eq!(ledger.count(), 4);
 //! assert_eq!(ledger.entries()[3], Record { entry: 3, value: 1 });
@@ -231,8 +234,9 @@
 //! # Refusals
 //!
 //! A call that is turned down gives a [`Refusal`] with a number and a sentence
-//! and changes nothing; of a listing also the line, in a [`ListingRefusal`]. No
-//! call panics, whatever it is given.
+//! and changes nothing; of a listing also the line, in a [`ListingRefusal`]. A
+//! store that no ledger is made of comes back, in a [`StoreRefusal`]. No call
+//! panics, whatever it is given.
 //!
 //! # Linking
 //!
@@ -254,5 +258,5 @@ mod store;
 pub use ledger::{Ledger, Record};
 pub use plan::{Plan, Shape};
 pub use program::{Program, Ran, Step};
-pub use refusal::{ListingRefusal, Refusal};
+pub use refusal::{ListingRefusal, Refusal, StoreRefusal};
 pub use store::{Filed, Settled, Store};

@@ -1,5 +1,6 @@
 //! Refusals: the number that a call answers, and what it means.
 
+use crate::Store;
 use std::error::Error;
 use std::fmt;
 
@@ -142,6 +143,73 @@ impl fmt::Display for ListingRefusal {
 }
 
 impl Error for ListingRefusal {
+    fn source(&self) -> Option<&(dyn Error + 'static)> {
+        Some(&self.refusal)
+    }
+}
+
+/// Why a ledger was not made of a store and a list, with the store, as
+/// [`Ledger::from_store`] gives it back.
+///
+/// Where the store is not wanted back, `?` makes a [`Refusal`] of it.
+///
+/// ```
+/// use celerycrag::{Ledger, Plan, Record, Refusal, Shape, Store};
+/// # fn main() -> Result<(), Refusal> {
+/// let shape = Shape { p: 3, s: 2, n: 1, m: 0, t: 0 };
+/// let plan = Plan::with_radix(shape, vec![], vec![], vec![])?;
+/// let mut store = Store::new(&plan);
+/// store.file(1, 1)?;
+///
+/// let turned_down = Ledger::from_store(store, &[]).unwrap_err();
+/// assert_eq!(turned_down.refusal(), Refusal::RECORDS);
+/// assert_eq!(
+///     turned_down.to_string(),
+///     "refused with 16: the records are not those of the store"
+/// );
+/// let ledger = Ledger::from_store(turned_down.into_store(), &[Record { entry: 1, value: 1 }])?;
+/// assert_eq!(ledger.count(), 1);
+/// # Ok(())
+/// # }
+/// ```
+///
+/// [`Ledger::from_store`]: crate::Ledger::from_store
+#[derive(Clone, Debug, PartialEq, Eq, Hash)]
+pub struct StoreRefusal {
+    pub(crate) refusal: Refusal,
+    pub(crate) store: Store,
+}
+
+impl StoreRefusal {
+    /// The cause.
+    pub fn refusal(&self) -> Refusal {
+        self.refusal
+    }
+
+    /// The store, as it was given.
+    pub fn store(&self) -> &Store {
+        &self.store
+    }
+
+    /// Gives the store back, as it was given.
+    pub fn into_store(self) -> Store {
+        self.store
+    }
+}
+
+impl From<StoreRefusal> for Refusal {
+    fn from(turned_down: StoreRefusal) -> Refusal {
+        turned_down.refusal
+    }
+}
+
+impl fmt::Display for StoreRefusal {
+    fn fmt(&self, f: &mut fmt::Formatter) -> fmt::Result {
+        self.refusal.fmt(f)
+    }
+}
+
+impl Error for StoreRefusal {
     fn source(&self) -> Option<&(dyn Error + 'static)> {
         Some(&self.refusal)
     }

@@ -476,7 +476,18 @@ fn the_wrapper() {
             assert_eq!(ledger.store().as_bytes(), recorded.store);
         }
         let store = Store::from_bytes(&plan, recorded.store.clone()).expect("a store");
-        let again = Ledger::from_store(store, recorded.listed());
+        let again = Ledger::from_store(store.clone(), recorded.listed());
         assert_eq!(again, Ok(ledger));
+
+        // With one record more, of what is no entry or of one that is listed,
+        // the store comes back.
+        let (entry, value) = (plan.entries() as u16, 0);
+        let none = Record { entry, value };
+        let more = random.pick(&[&[none], recorded.listed()].concat());
+        let list = [recorded.listed(), &[more]].concat();
+        let turned_down = Ledger::from_store(store.clone(), &list).expect_err("a wrong list");
+        let number = if list.len() > plan.entries() { 4 } else { 16 };
+        assert_eq!(turned_down.refusal().number(), number);
+        assert_eq!(turned_down.into_store(), store);
     });
 }

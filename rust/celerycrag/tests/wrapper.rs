@@ -3,7 +3,8 @@
 
 use celerycrag::raw::{self, Lent};
 use celerycrag::{
-    Filed, Ledger, ListingRefusal, Plan, Program, Ran, Record, Refusal, Settled, Shape, Step, Store,
+    Filed, Ledger, ListingRefusal, Plan, Program, Ran, Record, Refusal, Settled, Shape, Step,
+    Store, StoreRefusal,
 };
 use std::error::Error;
 
@@ -369,12 +370,33 @@ fn a_ledger_comes_back_from_its_store_and_list() {
         assert_eq!(other.withdraw(2), Ok(1));
         assert_eq!(other.count(), list.len() - 1);
     }
+    // The store that was given comes back: the same bytes in the same place.
+    let refused = |list: &[Record]| {
+        let store = ledger.store().clone();
+        let place = store.as_bytes().as_ptr();
+        let turned_down = Ledger::from_store(store, list).expect_err("no list of this store");
+        assert_eq!(turned_down.store(), ledger.store());
+        let refusal = turned_down.refusal();
+        assert_eq!(Refusal::from(turned_down.clone()), refusal);
+        let back = turned_down.into_store();
+        assert_eq!(back.as_bytes(), ledger.store().as_bytes());
+        assert_eq!(back.as_bytes().as_ptr(), place);
+        assert_eq!(back.plan(), &plan);
+        // It is as good as it was.
+        let again = Ledger::from_store(back, ledger.entries());
+        assert_eq!(again, Ok(ledger.clone()));
+        refusal
+    };
     for wrong in [
+        // Another store.
         &[][..],
         &[(2, 1)],
         &[(2, 1), (1, 0)],
         &[(2, 1), (1, 1), (3, 0)],
+        // An entry twice, with its value and with another.
         &[(2, 1), (1, 1), (1, 1)],
+        &[(2, 1), (1, 1), (1, 0)],
+        // No entry, no value, a contradiction.
         &[(2, 1), (1, 1), (4, 0)],
         &[(2, 1), (1, 1), (0, 2)],
         &[(2, 1), (1, 1), (256, 0)],
@@ -383,12 +405,35 @@ fn a_ledger_comes_back_from_its_store_and_list() {
     ] {
         let record = |&(entry, value)| Record { entry, value };
         let list: Vec<Record> = wrong.iter().map(record).collect();
-        assert_eq!(from(&list), Err(Refusal::RECORDS), "{wrong:?}");
+        assert_eq!(refused(&list), Refusal::RECORDS, "{wrong:?}");
     }
     // More records than there are entries.
     let many = records([(2, 1), (0, 0), (1, 1), (3, 0), (3, 0)]);
-    assert_eq!(from(&many), Err(Refusal::LENGTH));
-    assert_eq!(from(&[Record::default(); 300]), Err(Refusal::LENGTH));
+    assert_eq!(refused(&many), Refusal::LENGTH);
+    assert_eq!(refused(&[Record::default(); 300]), Refusal::LENGTH);
+}
+
+/// A withdrawn entry that the others still force can only have its old value,
+/// until they are withdrawn too.
+#[test]
+fn a_withdrawn_entry_may_stay_forced() {
+    let mut ledger = Ledger::new(&bare(5, 5, 1).expect("a plan"));
+    ledger.file(1, 2).expect("kept");
+    ledger.file(3, 1).expect("kept");
+    assert_eq!(ledger.withdraw(3), Ok(1));
+    assert_eq!(ledger.store().settled(3), Ok(forced(1)));
+    for value in [0, 2, 3, 4] {
+        assert_eq!(ledger.file(3, value), Err(Refusal::CONTRADICTION));
+    }
+    for value in [5, 6, 1 << 16, usize::MAX] {
+        assert_eq!(ledger.file(3, value), Err(Refusal::NO_VALUE));
+    }
+    assert_eq!(ledger.file(3, 1), Ok(Filed::Implied));
+    assert_eq!(ledger.withdraw(3), Ok(1));
+    assert_eq!(ledger.withdraw(1), Ok(2));
+    assert_eq!(ledger.store().settled(3), Ok(free(0)));
+    assert_eq!(ledger.file(3, 2), Ok(Filed::New { column: 0 }));
+    assert_eq!(ledger.store().settled(1), Ok(forced(4)));
 }
 
 const fn forced(residue: u8) -> Settled {
@@ -594,6 +639,24 @@ fn refusals_of_listings_are_errors_with_their_line() {
 }
 
 #[test]
+fn refusals_of_stores_are_errors_with_the_store() {
+    fn counted(store: Store, list: &[Record]) -> Result<usize, Refusal> {
+        Ok(Ledger::from_store(store, list)?.count())
+    }
+    let mut store = Store::new(&xor());
+    store.file(1, 1).expect("kept");
+    assert_eq!(counted(store.clone(), &records([(1, 1)])), Ok(1));
+    assert_eq!(counted(store.clone(), &[]), Err(Refusal::RECORDS));
+    let turned_down = Ledger::from_store(store, &[]).expect_err("no list of this store");
+    let error: Box<dyn Error + Send + Sync> = Box::new(turned_down);
+    assert_eq!(error.to_string(), Refusal::RECORDS.to_string());
+    assert_eq!(
+        error.source().map(|source| source.to_string()),
+        Some(Refusal::RECORDS.to_string())
+    );
+}
+
+#[test]
 fn refusals_are_errors_with_a_number_and_a_sentence() {
     let all = [
         Refusal::NO_PRIME,
@@ -635,4 +698,5 @@ fn the_types_go_between_threads() {
     both::<Program>();
     both::<Refusal>();
     both::<ListingRefusal>();
+    both::<StoreRefusal>();
 }
