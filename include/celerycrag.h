@@ -177,8 +177,8 @@
  * take for the arguments. A thread that makes the call needs so much beyond what
  * the host takes up to there. The C library's memcpy and memset, which are all that
  * is called outside, are in it, but not the loader: in a program that binds
- * functions when they are first called, that takes some 3,000 bytes more at the
- * first call of each of the two. Linked with -z now, it does not.
+ * functions when they are first called, it takes 1,500 to 3,000 bytes more, by the
+ * processor, at the first call of each of the two. Linked with -z now, it does not.
  */
 #ifndef CELERYCRAG_H
 #define CELERYCRAG_H
