@@ -82,8 +82,8 @@ abbrev pub settleAnswer : Given → List ℕ → ℕ → Answer
 settleAnswer G store i = answer (first (settleCauses G store i)) (valuesOf (standingOf G store i))
 
 -- "Forced means that all coefficients reproducing the store give that residue there; Free means that they don't", with the column at which
--- "clearing the row from the left may stop". Filing tells the same: it implies the forced residue and contradicts any other value, and is new
--- with the free column, whatever the value
+-- "clearing the row from the left may stop". Filing a value below s tells the same: it implies the forced residue and contradicts any other value,
+-- and is new with the free column, whatever the value
 pub record Settles (G : Given) (store : List ℕ) (i : ℕ) : Type 0 where
   pub when-forced : (v : ℕ) → (settleAnswer G store i ≡ answerOf (Forced v)) ↔ Gives G store i v
   pub when-free : ((c : ℕ) × (settleAnswer G store i ≡ answerOf (Free c))) ↔ ((v : ℕ) → Gives G store i v → ⊥)
