@@ -72,6 +72,26 @@ pub struct Reading {
     pub places: Vec<Place>,
 }
 
+impl Reading {
+    /// A function more, and where it stands: all of it, its name, its answer where
+    /// it has one of its own, and its parameters.
+    fn add(
+        &mut self,
+        function: Prototype,
+        (whole, name, answer): (Range<usize>, Range<usize>, Option<Range<usize>>),
+        spots: Vec<Spot>,
+    ) {
+        self.places.push(Place {
+            owner: Some(function.name.clone()),
+            whole: Some(whole),
+            name: Some(name),
+            answer,
+            spots,
+        });
+        self.functions.push(function);
+    }
+}
+
 /// Why a text was refused: the line, what was expected, and what stands there.
 pub type Refused = String;
 
@@ -402,18 +422,13 @@ pub fn library(text: &str) -> Result<Reading, Refused> {
             reader.group()?;
         }
         reader.group()?;
-        reading.places.push(Place {
-            owner: Some(name.clone()),
-            whole: Some(reader.since(&start)),
-            name: Some(name_spot),
-            answer: Some(answer_spot),
-            spots,
-        });
-        reading.functions.push(Prototype {
+        let function = Prototype {
             name,
             parameters: parameters.concat(),
             answer,
-        });
+        };
+        let places = (reader.since(&start), name_spot, Some(answer_spot));
+        reading.add(function, places, spots);
     }
     Ok(reading)
 }
@@ -472,18 +487,13 @@ pub fn header(text: &str) -> Result<(Reading, Record), Refused> {
                 })?;
                 reader.expect(";")?;
                 let (parameters, spots): (Vec<_>, _) = lists.into_iter().unzip();
-                reading.places.push(Place {
-                    owner: Some(name.clone()),
-                    whole: Some(reader.since(&start)),
-                    name: Some(name_spot),
-                    answer: Some(answer_spot),
-                    spots,
-                });
-                reading.functions.push(Prototype {
+                let function = Prototype {
                     name,
                     parameters: parameters.concat(),
                     answer,
-                });
+                };
+                let places = (reader.since(&start), name_spot, Some(answer_spot));
+                reading.add(function, places, spots);
             }
         }
     }
@@ -586,18 +596,12 @@ pub fn ffi(text: &str) -> Result<Reading, Refused> {
         reader.expect("(")?;
         let (own, spots): (Vec<_>, _) = reader.list(Reader::ffi_parameter)?.into_iter().unzip();
         reader.expect(";")?;
-        reading.places.push(Place {
-            owner: Some(name.clone()),
-            whole: Some(reader.since(&start)),
-            name: Some(name_spot),
-            answer: None,
-            spots,
-        });
-        reading.functions.push(Prototype {
+        let function = Prototype {
             name,
             parameters: [&plan[..], &own].concat(),
             answer,
-        });
+        };
+        reading.add(function, (reader.since(&start), name_spot, None), spots);
     }
     match reader.word() {
         "" => Ok(reading),
