@@ -39,7 +39,7 @@ or-none a b =
     (λ x y. omega (arith, or_add_and a b, x, y))
 
 -- the l places from i on, as the code cuts them
-abbrev cut : ℕ → ℕ → List ℕ → List ℕ
+abbrev pub cut : ℕ → ℕ → List ℕ → List ℕ
 cut i l xs = take l (take (length xs - i) (drop i xs))
 
 split : (n m : ℕ) (xs : List ℕ) → all_below 1 (take (n + m) xs) ≡ (all_below 1 (take n xs) && all_below 1 (take m (drop n xs)))

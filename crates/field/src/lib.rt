@@ -3,6 +3,8 @@
 // The 53 primes and the search for one; inverses; the multiply-and-reduce cell; over it the row operations that plans and
 // stores are made of; and whether bytes are all 0, which the store test asks. Stands on `lists`. Renders 01, "The plan" (the primes,
 // residues) and "The written program" (tables m and m+1).
+#![tactic(auto)]
+
 mod primes;
 mod residues;
 mod rows;

@@ -15,7 +15,7 @@ ghost use Rattle.filing.specs.Input.{Fed, Ended, Printed};
 use text::State;
 
 // What was read: the state of the text, how many bytes of it came, and what the last read answered, 0 at the end of the input.
-#[derive(Drop)]
+#[derive(Clone, Copy)]
 struct Input {
     state: State,
     count: usize,

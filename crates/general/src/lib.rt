@@ -13,7 +13,7 @@ use plan::{Checked, Own, Plan, admit};
 use store::{Filed, file_entry};
 
 // What the test answers, or the number of the refusal.
-#[derive(Drop)]
+#[derive(Clone, Copy)]
 pub enum Suited {
     Yes,
     No,

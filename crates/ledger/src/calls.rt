@@ -15,7 +15,7 @@ use plan::{Checked, Own, Plan, admit};
 use store::{Filed, file_entry, is_reduced};
 
 // What filing leaves to do: a record at a place, which is past the end where no record is to be written. With the number of the answer.
-#[derive(Drop)]
+#[derive(Clone, Copy)]
 pub struct Placed {
     pub number: u8,
     pub at: usize,
@@ -25,7 +25,7 @@ pub struct Placed {
 
 // What withdrawing leaves to do: of the first `count` records the one at a place is to be removed; none where both are 0. With the number of
 // the answer.
-#[derive(Drop)]
+#[derive(Clone, Copy)]
 pub struct Taken {
     pub number: u8,
     pub count: usize,

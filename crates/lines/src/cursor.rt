@@ -5,7 +5,7 @@ ghost use Rattle.lines.specs.Words as specs;
 
 use crate::numerals::{Numeral, number_at};
 
-#[derive(Drop)]
+#[derive(Clone, Copy)]
 pub struct Cursor<'a> {
     pub line: &'a [u8],
     pub at: usize,

@@ -4,7 +4,7 @@ ghost use Rattle.lines.specs.Lines as lines;
 ghost use Rattle.lines.specs.Words as specs;
 
 // What stands at a place: a number, with the place where the next word begins, or none.
-#[derive(Drop)]
+#[derive(Clone, Copy)]
 pub enum Numeral {
     Number(usize, usize),
     Malformed,

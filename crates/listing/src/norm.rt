@@ -9,7 +9,7 @@ ghost use Rattle.listing.specs.Norm as specs;
 use plan::{Checked, Own, Plan, admit};
 
 // What the call answers: the norm, or the number of the refusal.
-#[derive(Drop)]
+#[derive(Clone, Copy)]
 pub enum Normed {
     Norm(usize),
     Refused(u8),

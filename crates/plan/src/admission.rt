@@ -9,7 +9,7 @@ use crate::parts::part_refusal;
 use crate::radices::product;
 
 // The call's own parts, by the lengths in which they were lent; of a store, a work store and records, with the records' count.
-#[derive(Drop)]
+#[derive(Clone, Copy)]
 pub enum Own {
     Nothing,
     Row(usize),

@@ -5,6 +5,8 @@
 // plan. `Plan::new` without radices is for a plan whose parts are still to come, as in a text; `radix_refusal` then tests these. Stands on
 // `field` and `lists`. Renders 01, "The plan", "From entry to row" and, of "Turned down", the number order and causes 1 to 5 and 7; 02, C-11;
 // and Equation 1 of 003.
+#![tactic(auto)]
+
 mod admission;
 mod calls;
 mod numbers;

@@ -6,7 +6,7 @@ use crate::radices::{product, radices_fit, radix_fits};
 
 // The numbers of a plan that meets none of causes 1 to 3: the prime, the bound of table values, the digits, the links and the products.
 // The radices stay with the caller, like the other parts.
-#[derive(Drop)]
+#[derive(Clone, Copy)]
 pub struct Plan {
     pub p: u8,
     pub s: u8,
@@ -16,7 +16,7 @@ pub struct Plan {
 }
 
 // What the constructor answers: the plan, or the number of the refusal.
-#[derive(Drop)]
+#[derive(Clone, Copy)]
 pub enum Checked {
     Accepted(Plan),
     Refused(u8),

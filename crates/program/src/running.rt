@@ -10,7 +10,7 @@ ghost use Rattle.program.specs.Calls.{digits_fit, answer_of};
 use plan::Plan;
 
 // What the run answers: y and the number of bootstraps carried out, or the number of the refusal.
-#[derive(Drop)]
+#[derive(Clone, Copy)]
 pub enum Ran {
     Done(u8, usize),
     Refused(u8),
@@ -110,7 +110,7 @@ fn table_at(plan: Plan, tables: &[u8], quarter: u8, k: usize, z: u8) -> u8
 }
 
 // The registers by value: each step takes them and gives the registers after it.
-#[derive(Drop)]
+#[derive(Clone, Copy)]
 struct Registers {
     at: [u8; Registers::COUNT],
 }

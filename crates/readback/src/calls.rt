@@ -14,7 +14,7 @@ use crate::scanning::{Scan, scan_text};
 use plan::{Checked, Own, Plan, admit};
 
 // What reading a listing answers: read, or the number of the refusal, with the line that met it where it has one.
-#[derive(Drop)]
+#[derive(Clone, Copy)]
 pub enum Reread {
     Read,
     Refused(u8),

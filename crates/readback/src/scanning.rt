@@ -6,7 +6,7 @@ ghost use Rattle.readback.specs.Scanned as specs;
 use lines::{piece_end, read_line, same};
 
 // What the lines of a text give: the first malformed or missing one, or how many step numbers there are.
-#[derive(Drop)]
+#[derive(Clone, Copy)]
 pub enum Scan {
     Malformed(usize),
     Whole(usize),

@@ -7,7 +7,7 @@ ghost use Rattle.records.specs.Listed.{none, removed, removed_at, noted, unpacke
 
 // An entry and its value: four bytes, and no byte between.
 #[repr(C)]
-#[derive(Drop)]
+#[derive(Clone, Copy)]
 pub struct Record {
     pub entry: u16,
     pub value: u16,

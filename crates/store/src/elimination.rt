@@ -15,7 +15,7 @@ ghost use Rattle.store.specs.Calls as calls;
 use plan::Plan;
 
 // What filing answers: the pivot column of a new equation, an equation that the store implies already, or the number of the refusal.
-#[derive(Drop)]
+#[derive(Clone, Copy)]
 pub enum Filed {
     New(usize),
     Implied,

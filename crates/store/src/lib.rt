@@ -4,6 +4,8 @@
 // `general` and `ledger` call `file_entry`, on a store that they know to be in reduced form; `ledger` and `moves` ask `is_reduced` of one.
 // How long a store is, is asked of `store_size`. Stands on `plan` and `field`. Renders 01, "The store" and causes 6 to 9; 02, C-11 to C-13, and the
 // layout of C-16, whose moves are in `moves`; the theory of elimination is in proofs/, and what follows from it of rows, moves and ranks in `laws`.
+#![tactic(auto)]
+
 mod calls;
 mod elimination;
 mod reduced;

@@ -17,7 +17,7 @@ use crate::elimination::{entry_equation, lead, opposite, residual};
 use plan::Plan;
 
 // What settling answers: the residue that all coefficients give, the first column that leaves it open, or the number of the refusal.
-#[derive(Drop)]
+#[derive(Clone, Copy)]
 pub enum Settled {
     Forced(u8),
     Free(usize),

@@ -13,7 +13,7 @@ use lines::{read_line, same};
 use plan::{Checked, Plan};
 
 // The line to come. A link's or product's number stands behind the plan; then how many weights, table values and product weights are read.
-#[derive(Drop)]
+#[derive(Clone, Copy)]
 pub enum Stage {
     Names,
     Header,

@@ -1,0 +1,31 @@
+use mathlib.Core.Path.{refl, sym, ◌∙◌}
+use Prim.Native.Nat.{◌-◌}
+use native.Mathlib.Omega.{arith}
+use lib.ListN.{length, replicate, length-replicate, get_or-replicate}
+use Rattle.lists.proofs.Tabs.{is-tab}
+use Rattle.lists.proofs.Overwrite.{written_none, written_next, written_all}
+use Rattle.field.proofs.rows.clear.Goals as goal
+
+pub loop-j-init : goal.loop-j-init
+loop-j-init c = written_none _ _ _ refl
+
+pub bounds-xs-j : goal.bounds-xs-j
+bounds-xs-j c = omega arith
+
+pub overflow_add-j : goal.overflow_add-j
+overflow_add-j c = omega arith
+
+pub loop-j-smaller : goal.loop-j-smaller
+loop-j-smaller c = omega (arith, c.loop-j.invariant.same)
+
+pub loop-j-preserved : goal.loop-j-preserved
+loop-j-preserved c =
+    let loop = c.loop-j in
+    written_next 0 loop.invariant (omega (arith, loop.invariant.same)) refl
+
+pub returns : goal.returns
+returns c =
+    let loop = c.loop-j in
+    let n = length c.args.xs.now in
+    written_all loop.invariant (omega (arith, loop.invariant.same))
+    ∙ sym (is-tab (replicate n 0) n (λ _. 0) 0 (length-replicate n 0) (λ i l. get_or-replicate n i 0 0 l))

@@ -1,0 +1,10 @@
+-- `plan::rows::fill_digits` meets its contract: a turn splits one more digit off the entry (`Split` of `Digits`). Assumes nothing.
+use Prim.Native.Nat.{◌-◌}
+use Rattle.plan.proofs.Digits.{Split}
+use Rattle.plan.proofs.rows.fill_digits.Given as goal
+
+abbrev pub invariant-loop-j : goal.invariant-loop-j
+invariant-loop-j l = Split l.radices l.entry l.j l.rest l.x
+
+abbrev pub decreases-loop-j : goal.decreases-loop-j
+decreases-loop-j l = l.j
