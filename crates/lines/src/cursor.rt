@@ -1,5 +1,4 @@
-// A cursor over a line: it borrows the line's bytes, and holds the place of the next word. Each function that takes, makes or has
-// a local of one is proved by a walk of its MIR, by hand; `number_at` and `next_place`, which do the work, are covered.
+// A cursor over a line: it borrows the line's bytes, and holds the place of the next word. `number_at` and `next_place` do the work.
 ghost use Rattle.std.specs.Prelude.{◌≡◌, ◌≤◌};
 ghost use Rattle.lines.specs.Words as specs;
 
