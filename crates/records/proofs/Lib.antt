@@ -1,4 +1,3 @@
--- How records lie in memory, how they move down, and where nothing changes.
-pub mod Rows
+-- How records move down, and where nothing changes.
 pub mod Shifting
 pub mod Removals

@@ -1,7 +1,9 @@
 // The list of entry records that a caller lends: what a record is, and the few thin functions that take the slice.
 //
-// `note` is covered; each of the others takes a slice of structs and is proved by a walk of its MIR, by hand. None of them decides anything: what
-// is put, and what is removed, is told by the caller, which is `celerycrag`. Stands on `walks`. Renders 02, C-18.
+// None of them decides anything: what is put, and what is removed, is told by the caller, which is `celerycrag`. Stands on the standard library
+// alone. Renders 02, C-18.
+#![tactic(auto)]
+
 ghost use Rattle.std.specs.Prelude.{◌≡◌, ◌<◌, ◌≤◌, length, get_or, set};
 ghost use Rattle.records.specs.Listed.{none, removed, removed_at, noted, unpacked};
 
@@ -28,7 +30,7 @@ pub fn remove(records: &mut [Record], count: usize, at: usize) -> u16
     value
 }
 
-// A record's two numbers at its place of a list of numbers; nothing where they would not fit. Covered.
+// A record's two numbers at its place of a list of numbers; nothing where they would not fit.
 pub fn note(list: &mut [u16], i: usize, r: Record)
     ensures { list.new ≡ noted list.old i r.entry r.value }
 {

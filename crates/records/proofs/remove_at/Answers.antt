@@ -1,0 +1,13 @@
+-- `records::remove_at` meets its contract: with the record there, and on each way past. Assumes nothing.
+use Rattle.std.proofs.Common.{◌∙◌, sym}
+use Rattle.records.proofs.Removals.{removed-there, removed-above, removed-beyond}
+use Rattle.records.proofs.remove_at.Goals as goal
+
+pub returns-then-count-records : goal.returns-then-count-records
+returns-then-count-records c = c.remove.ensures.1 ∙ sym (removed-there _ _ _ c.if-at-count.true c.if-count-records.true)
+
+pub returns-else-count-records : goal.returns-else-count-records
+returns-else-count-records c = sym (removed-beyond _ _ _ c.if-count-records.false)
+
+pub returns-else-at-count : goal.returns-else-at-count
+returns-else-at-count c = sym (removed-above _ _ _ c.if-at-count.false)
