@@ -4,6 +4,8 @@
 // lent slice, and `write_into` says what the whole slice holds. Crates above call `put_program`, which takes a checked plan,
 // `step_count`, and `steps_buffer` for an array to write in. Stands on `plan`, `field` and `lists`. Renders 01, "The written program",
 // "Running it" and, of "Turned down", causes 10 to 12; 02, C-11; and Algorithms 1 to 3 of 003. Demand 2 is in proofs/.
+#![tactic(auto)]
+
 mod buffer;
 mod calls;
 mod running;
