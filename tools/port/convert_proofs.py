@@ -301,15 +301,15 @@ class Turn:
             c = callee.get(norm(m.group(1))) or callee.get(step_alias.get(m.group(1), ""))
             info = contract(c) if c else None
             if info:
-                ds = m.group(2).split(".")
+                ds = m.group(3).split(".")
                 k = 0
                 while k < len(ds) and ds[k] == "1":
                     k += 1
                 if k < len(ds) and ds[k] == "0" and k < len(info[2]):
-                    return f"{m.group(1)}.new.{info[2][k][0]}" + "".join("." + d for d in ds[k + 1:])
+                    return f"{m.group(1)}.{m.group(2)}.{info[2][k][0]}" + "".join("." + d for d in ds[k + 1:])
             return m.group(0)
 
-        text = re.sub(r"(?<![\w'₀-₉-])([\w'₀-₉-]+)\.new\.(\d+(?:\.\d+)*)", new, text)
+        text = re.sub(r"(?<![\w'₀-₉-])([\w'₀-₉-]+)\.(?P<kind>new|auto)\.(\d+(?:\.\d+)*)", new, text)
 
         def rename(m):
             name = norm(m.group(1))
@@ -330,7 +330,7 @@ class Turn:
             if root in partial:
                 return m.group(0)
             name = norm(field)
-            return root + "." + self.steps.get(name, field)
+            return root + "." + self.steps.get(name, self.steps.get(re.sub(r"_(\d+)$", r"\1", name), field))
 
         text = re.sub(r"(?<![\w.'₀-₉-])([a-zA-Zα-ω][\w'₀-₉-]*)\.([a-zA-Z][\w'-]*)(?![\w'-])", step_of, text)
         text = re.sub(r"(\))\.([a-zA-Z][\w'-]*)(?![\w'-])", step_of, text)
