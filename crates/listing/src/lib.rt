@@ -3,6 +3,8 @@
 // A host or a program calls `worst_norm`, which takes any numbers and bytes. Crates above call `worst` and `print_listing`, which take a
 // checked plan, and `print_refusal`. Stands on `program`, `plan`, `field` and `lists`. Renders 01, "Worst norm", with 02, C-14, and of "The
 // filing program" what it prints.
+#![tactic(auto)]
+
 mod decimal;
 mod norm;
 mod printing;
