@@ -2,6 +2,8 @@
 //
 // A host calls `general`, which takes any numbers and bytes. Stands on `store` and `plan`, and on `laws` for how many filings can be New. Renders
 // 02, C-17.
+#![tactic(auto)]
+
 ghost use Rattle.std.specs.Prelude.{◌≡◌};
 ghost use Rattle.plan.specs.Numbers.{Within};
 ghost use Rattle.plan.specs.Parts.{lend, given, Lent};
