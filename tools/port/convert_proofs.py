@@ -327,7 +327,7 @@ class Turn:
 
         def step_of(m):
             root, field = m.group(1), m.group(2)
-            if root in partial:
+            if root in partial or root in getattr(self, "let_names", ()):
                 return m.group(0)
             name = norm(field)
             return root + "." + self.steps.get(name, self.steps.get(re.sub(r"_(\d+)$", r"\1", name), field))
@@ -497,6 +497,8 @@ class Turn:
         if self.flat:
             blocks, aliases, lets, order = self.inline(blocks)
 
+        self.let_names = set(order)
+
         def flatten(text, own=()):
             for a in aliases:
                 if a not in own:
@@ -617,6 +619,8 @@ class Turn:
                 first, rest_of = core.split("\n", 1)
                 rest_of = rename_names(rest_of)
                 core = first + "\n" + self.fix_ties(rest_of)
+                for g in gone:
+                    core = re.sub(r"\(" + re.escape(g) + r" c(?:\.before)*\)", "(omega arith)", core)
                 if self.flat:
                     core = with_lets(core, new)
                 trivial = re.match(r"(?:[^\n]*\n)*?" + re.escape(new) + r" c(?: κs?| _)? =\s*(search rules|tt)\s*$", core)
