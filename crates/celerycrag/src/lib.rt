@@ -5,6 +5,8 @@
 // what they do to the records; their proofs are walks (tools/walks). include/celerycrag.h documents each call. Stands on `plan`, `store`, `moves`,
 // `general`, `ledger`, `records`, `program`, `listing` and `readback`. Renders 01, "Turned down", for a host: of causes 1 to 13 and 15 to 17 the number returned
 // and what is left as it was, in the words of the contracts below.
+#![tactic(auto)]
+
 ghost use Rattle.std.specs.Prelude.{◌≡◌, ◌*◌};
 ghost use Rattle.plan.specs.Causes.{first, leaves, number_of};
 ghost use Rattle.plan.specs.Numbers.{plan, columns};
