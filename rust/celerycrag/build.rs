@@ -1,6 +1,6 @@
 //! Links the static library that holds the proved code, libcelerycrag.a: from
 //! the directory that CELERYCRAG_LIB_DIR names, else from target/staticlib at
-//! the root of the repository, where `rt staticlib celerycrag` puts it.
+//! the root of the repository, where `tools/build` puts it.
 
 use std::env;
 use std::path::PathBuf;
@@ -17,7 +17,7 @@ fn main() {
     let archive = directory.join("libcelerycrag.a");
     if !archive.is_file() {
         println!(
-            "cargo:warning=there is no archive at {}: run `rt staticlib celerycrag` at the root of \
+            "cargo:warning=there is no archive at {}: run `tools/build` at the root of \
              the repository, or set CELERYCRAG_LIB_DIR to the directory that has it",
             archive.display()
         );

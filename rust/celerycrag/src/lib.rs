@@ -242,7 +242,7 @@
 //!
 //! The build script links `libcelerycrag.a` from the directory that the
 //! environment variable `CELERYCRAG_LIB_DIR` names, else from
-//! `target/staticlib` at the root of the repository. `rt staticlib celerycrag`,
+//! `target/staticlib` at the root of the repository. `tools/build`,
 //! run there, proves the library and puts the archive in that place.
 
 #![warn(missing_docs)]

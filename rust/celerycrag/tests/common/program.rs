@@ -7,13 +7,13 @@ use std::thread;
 use std::time::Duration;
 
 /// Its file: that of CELERYCRAG_FILING, else of target/bin at the root of the
-/// repository, where `rt check filing` puts it.
+/// repository, where `tools/build` puts it.
 pub fn program() -> PathBuf {
     let built = concat!(env!("CARGO_MANIFEST_DIR"), "/../../target/bin/filing");
     let path = std::env::var_os("CELERYCRAG_FILING").map_or(PathBuf::from(built), PathBuf::from);
     assert!(
         path.is_file(),
-        "no filing program at {}: build it with 'rt check filing', or set CELERYCRAG_FILING",
+        "no filing program at {}: build it with 'tools/build', or set CELERYCRAG_FILING",
         path.display()
     );
     path
