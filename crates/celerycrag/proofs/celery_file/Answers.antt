@@ -11,19 +11,19 @@ use Rattle.celerycrag.proofs.celery_file.Goals as goal
 pub overflow_add-column : goal.overflow_add-column
 overflow_add-column c =
     let within : let a = c.args in Within (plan a.p a.s a.n a.m a.t) =
-      ((unrefused _ _ _ (answer-gives _ _ _ (sym c.file-a.ensures.r_value ∙ ap answer_of c.in-Implied.is)).0).within) in
+    ((unrefused _ _ _ (answer-gives _ _ _ (sym c.file-a.ensures.r_value ∙ ap answer_of c.in-Implied.is)).0).within) in
     omega (arith, within)
 
 pub overflow_add-column-in-Implied : goal.overflow_add-column-in-Implied
 overflow_add-column-in-Implied c =
     let within : let a = c.args in Within (plan a.p a.s a.n a.m a.t) =
-      ((unrefused _ _ _ (answer-gives _ _ _ (sym c.file-a.ensures.r_value ∙ ap answer_of c.in-Implied.is)).0).within) in
+    ((unrefused _ _ _ (answer-gives _ _ _ (sym c.file-a.ensures.r_value ∙ ap answer_of c.in-Implied.is)).0).within) in
     omega (arith, within)
 
 pub overflow_mul-column : goal.overflow_mul-column
 overflow_mul-column c =
     let within : let a = c.args in Within (plan a.p a.s a.n a.m a.t) =
-      ((unrefused _ _ _ (answer-gives _ _ _ (sym c.file-a.ensures.r_value ∙ ap answer_of c.in-Implied.is)).0).within) in
+    ((unrefused _ _ _ (answer-gives _ _ _ (sym c.file-a.ensures.r_value ∙ ap answer_of c.in-Implied.is)).0).within) in
     omega (arith, within)
 
 pub returns-in-New : goal.returns-in-New

@@ -1,6 +1,5 @@
 -- `celerycrag::celery_file_recorded` meets its contract: the list is the records unpacked, and what is left to do of them is done (`Told` of
 -- `ledger`). Assumes nothing.
-use native.Mathlib.Omega.{arith}
 use Rattle.plan.specs.Parts.{given}
 use Rattle.ledger.proofs.Told.{file-told}
 use Rattle.celerycrag.proofs.celery_file_recorded.Goals as goal

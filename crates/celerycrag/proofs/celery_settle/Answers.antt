@@ -17,9 +17,9 @@ overflow_add-no_column c =
     let within : (vs : List ℕ) → answer_of c.settle-a.result ≡ gives vs →
     let a = c.args in
     Within (plan a.p a.s a.n a.m a.t) =
-      (λ vs e. (unrefused _ _ _ (answer-gives _ _ vs (sym c.settle-a.ensures ∙ e)).0).within) in
+    (λ vs e. (unrefused _ _ _ (answer-gives _ _ vs (sym c.settle-a.ensures ∙ e)).0).within) in
     let forced : let a = c.args in Within (plan a.p a.s a.n a.m a.t) =
-      (within _ (ap answer_of c.in-Forced.is)) in
+    (within _ (ap answer_of c.in-Forced.is)) in
     omega (arith, forced)
 
 pub overflow_add-no_column-in-Forced : goal.overflow_add-no_column-in-Forced
@@ -27,9 +27,9 @@ overflow_add-no_column-in-Forced c =
     let within : (vs : List ℕ) → answer_of c.settle-a.result ≡ gives vs →
     let a = c.args in
     Within (plan a.p a.s a.n a.m a.t) =
-      (λ vs e. (unrefused _ _ _ (answer-gives _ _ vs (sym c.settle-a.ensures ∙ e)).0).within) in
+    (λ vs e. (unrefused _ _ _ (answer-gives _ _ vs (sym c.settle-a.ensures ∙ e)).0).within) in
     let forced : let a = c.args in Within (plan a.p a.s a.n a.m a.t) =
-      (within _ (ap answer_of c.in-Forced.is)) in
+    (within _ (ap answer_of c.in-Forced.is)) in
     omega (arith, forced)
 
 pub overflow_mul-no_column : goal.overflow_mul-no_column
@@ -37,9 +37,9 @@ overflow_mul-no_column c =
     let within : (vs : List ℕ) → answer_of c.settle-a.result ≡ gives vs →
     let a = c.args in
     Within (plan a.p a.s a.n a.m a.t) =
-      (λ vs e. (unrefused _ _ _ (answer-gives _ _ vs (sym c.settle-a.ensures ∙ e)).0).within) in
+    (λ vs e. (unrefused _ _ _ (answer-gives _ _ vs (sym c.settle-a.ensures ∙ e)).0).within) in
     let forced : let a = c.args in Within (plan a.p a.s a.n a.m a.t) =
-      (within _ (ap answer_of c.in-Forced.is)) in
+    (within _ (ap answer_of c.in-Forced.is)) in
     omega (arith, forced)
 
 pub overflow_cast-no_residue : goal.overflow_cast-no_residue
@@ -47,9 +47,9 @@ overflow_cast-no_residue c =
     let within : (vs : List ℕ) → answer_of c.settle-a.result ≡ gives vs →
     let a = c.args in
     Within (plan a.p a.s a.n a.m a.t) =
-      (λ vs e. (unrefused _ _ _ (answer-gives _ _ vs (sym c.settle-a.ensures ∙ e)).0).within) in
+    (λ vs e. (unrefused _ _ _ (answer-gives _ _ vs (sym c.settle-a.ensures ∙ e)).0).within) in
     let free : let a = c.args in Within (plan a.p a.s a.n a.m a.t) =
-      (within _ (ap answer_of c.in-Free.is)) in
+    (within _ (ap answer_of c.in-Free.is)) in
     omega (arith, (modulus free).1)
 
 pub returns-in-Forced : goal.returns-in-Forced

@@ -25,6 +25,6 @@ returns c =
     let a = c.args in
     let G = given a.p a.s a.n a.m a.t a.radices.now a.weights.now a.tables.now a.d.now in
     let told = withdraw-told G a.store.now a.work.now a.records.now a.count.now
-      c.list_buffer-list.result c.unpack-size.new.list c.unpack-size.result a.entry a.value.now c.withdraw_listed-taken.result _ _ _ _ c.remove_at.new.records
-      c.list_buffer-list.ensures c.unpack-size.ensures.0 c.unpack-size.ensures.1 c.withdraw_listed-taken.ensures c.remove_at.ensures in
+    c.list_buffer-list.result c.unpack-size.new.list c.unpack-size.result a.entry a.value.now c.withdraw_listed-taken.result _ _ _ _ c.remove_at.new.records
+    c.list_buffer-list.ensures c.unpack-size.ensures.0 c.unpack-size.ensures.1 c.withdraw_listed-taken.ensures c.remove_at.ensures in
     (told.0, told.1, told.2, told.3 ∙ valued G _ a.work.now a.entry a.value.now)

@@ -18,25 +18,25 @@ length_of-refused (suc k) n old h = refl
 pub overflow_cast-p : goal.overflow_cast-p
 overflow_cast-p c =
     let within : let a = c.args in Within (plan a.p a.s a.n a.m a.t) =
-      ((unrefused _ _ _ (sym c.write_into-k.ensures.value ∙ c.if-k-eq0.true)).within) in
+    ((unrefused _ _ _ (sym c.write_into-k.ensures.value ∙ c.if-k-eq0.true)).within) in
     omega (arith, prime-high within)
 
 pub overflow_cast-s : goal.overflow_cast-s
 overflow_cast-s c =
     let within : let a = c.args in Within (plan a.p a.s a.n a.m a.t) =
-      ((unrefused _ _ _ (sym c.write_into-k.ensures.value ∙ c.if-k-eq0.true)).within) in
+    ((unrefused _ _ _ (sym c.write_into-k.ensures.value ∙ c.if-k-eq0.true)).within) in
     omega (arith, prime-high within, within.value-high)
 
 pub step_count-requires : goal.step_count-requires
 step_count-requires c =
     let within : let a = c.args in Within (plan a.p a.s a.n a.m a.t) =
-      ((unrefused _ _ _ (sym c.write_into-k.ensures.value ∙ c.if-k-eq0.true)).within) in
+    ((unrefused _ _ _ (sym c.write_into-k.ensures.value ∙ c.if-k-eq0.true)).within) in
     within
 
 pub overflow_mul-written : goal.overflow_mul-written
 overflow_mul-written c =
     let within : let a = c.args in Within (plan a.p a.s a.n a.m a.t) =
-      ((unrefused _ _ _ (sym c.write_into-k.ensures.value ∙ c.if-k-eq0.true)).within) in
+    ((unrefused _ _ _ (sym c.write_into-k.ensures.value ∙ c.if-k-eq0.true)).within) in
     omega (arith, step-limit _ within, c.step_count.ensures)
 
 pub returns-then-k-eq0 : goal.returns-then-k-eq0
