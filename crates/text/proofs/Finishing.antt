@@ -1,5 +1,4 @@
 -- The end of a text, from the code's state.
---     not-entries                  what the test of the stage leaves
 --     finish-stopped, finish-broken, finish-early, finish-filed      what is printed, by the stage and the bytes held
 --     entries-inside, filed-sound      at the entries, the parts and the store are as the listing needs them
 --     read-front, read-back, read-part, read-residues      the coefficients in a local array
@@ -8,13 +7,11 @@
 -- Assumes nothing.
 use mathlib.Core.Path.{◌≡◌, refl, sym, ap, subst, ◌∙◌}
 use mathlib.Core.List.{List, [], ◌∷◌, ◌++◌}
-use Prim.Native.Nat.{ℕ, ◌+◌, ◌≤◌, ◌<◌}
+use Prim.Native.Nat.{ℕ, ◌≤◌, ◌<◌}
 use native.Mathlib.Nat.{pos_of_ne-zero}
 use native.Mathlib.Omega.{arith}
 use lib.ListN.{length, take, length-append}
 use lib.Seq.{take_at, length-take-le}
-use denote.Enum.Declared.{tag_of}
-use types.Run.{OneOf, miss}
 use Rattle.lists.specs.Places.{placed}
 use Rattle.lists.proofs.Tabs.{tab-length}
 use Rattle.field.specs.Residues.{Residues}
@@ -34,14 +31,8 @@ use Rattle.text.specs.Sound.{Sound, SoundState}
 use Rattle.text.specs.declared.stages.Stage.{Stage}
 use Rattle.text.specs.declared.stages.Stage.TheVariants.{Names, Header, Radices, Weights, Table, Product, EntryNames, Entries, Stopped}
 use Rattle.text.specs.declared.turns.State as code
-use Rattle.text.specs.contracts.stages.Stage.{the_type}
 use Rattle.text.proofs.Streaming.{streamed}
 use Rattle.text.proofs.Soundness.{sound-pushes, lent}
-
-pub not-entries : (stage : Stage) → OneOf (0 ∷ 1 ∷ 2 ∷ 3 ∷ 4 ∷ 5 ∷ 6 ∷ 8 ∷ []) (tag_of the_type stage) → (P : Plan) (a b c : ℕ) → stage ≡ Entries P a b c → ⊥
-not-entries stage h P a b c e =
-    let keys : List ℕ = 0 ∷ 1 ∷ 2 ∷ 3 ∷ 4 ∷ 5 ∷ 6 ∷ 8 ∷ [] in
-    miss keys 7 tt (subst (λ (s : Stage). OneOf keys (tag_of the_type s)) e h)
 
 module _ (j : ℕ) (R w T d S : List ℕ) where
   broken : (stage : Stage) (held : List ℕ) → ((k : ℕ) → stage ≡ Stopped k → ⊥) → 0 < length held → refused 13 j ≡ finish (stated j held (judged_of stage R w T d S))

@@ -1,0 +1,21 @@
+-- `text::stages::weights_line` meets its contract. Assumes nothing.
+use native.Mathlib.Omega.{arith}
+use Rattle.text.proofs.Judging.{weights-refuses, weights-reaches}
+use Rattle.text.proofs.stages.weights_line.Goals as goal
+
+pub returns-then-cause-ne0 : goal.returns-then-cause-ne0
+returns-then-cause-ne0 c =
+    let read = c in
+    let args = c.args in record {
+      fact = tt;
+      fact_2 = λ R T d S. weights-refuses args.plan args.k _ _ args.line.now read.part_line-cause.ensures.r_value _ _ _ c.if-cause-ne0.true;
+    }
+
+pub returns : goal.returns
+returns c =
+    let read = c in
+    let pre = c.requires in
+    let args = c.args in record {
+      fact = (pre.fits.0, pre.fits.1, omega (arith, pre), pre.fits.3);
+      fact_2 = λ R T d S. weights-reaches args.plan args.k _ _ args.line.now read.part_line-cause.ensures.r_value args.weights.now _ _ _ args.a c.if-cause-ne0.false (omega (arith, pre)) read.part_line-cause.ensures.buffer_after;
+    }
