@@ -2,7 +2,7 @@
 //
 // An answer is 01's number, 0 where the call is accepted; what else an answer carries goes through a lent number, which a refusal leaves
 // alone, but for the line that comes with 13 and 15. The two calls with records stand here alone: what they decide is in `ledger`, and `records` has
-// what they do to the records; their proofs are walks (tools/walks). include/celerycrag.h documents each call. Stands on `plan`, `store`, `moves`,
+// what they do to the records. include/celerycrag.h documents each call. Stands on `plan`, `store`, `moves`,
 // `general`, `ledger`, `records`, `program`, `listing` and `readback`. Renders 01, "Turned down", for a host: of causes 1 to 13 and 15 to 17 the number returned
 // and what is left as it was, in the words of the contracts below.
 #![tactic(auto)]

@@ -10,7 +10,7 @@
 -- Assumes nothing.
 use mathlib.Core.Path.{◌≡◌, refl, sym, ap, subst, ◌∙◌}
 use mathlib.Core.Bool.{true, false, cond, true≢false, false≢true}
-use mathlib.Core.List.{List, [], ◌∷◌, ◌++◌, Memᴰ}
+use mathlib.Core.List.{List, [], ◌∷◌, ◌++◌}
 use mathlib.Core.Logic.{◌↔◌}
 use Prim.Native.Nat.{ℕ, zero, suc, ◌≤◌, ◌<◌}
 use native.Mathlib.Omega.{arith}
@@ -26,7 +26,7 @@ use Rattle.plan.specs.Rows.{entry_cause}
 use Rattle.plan.specs.declared.admission.Own.TheVariants.{Nothing, Store}
 use Rattle.plan.proofs.Refusals.{none-met, leaves-refused}
 use Rattle.plan.proofs.Admitting.{unrefused, accepted-call}
-use Rattle.store.specs.Elimination.{Satisfies, Outcome, new, implied, contradiction, after, cells, flat}
+use Rattle.store.specs.Elimination.{Satisfies, Outcome, new, implied, contradiction, cells}
 use Rattle.store.specs.Filings.{is_contradiction}
 use Rattle.store.specs.Calls.{equation, outcome_of, value_cause, conflict_cause, file_own, values_of, answered, filed}
 use Rattle.store.proofs.ReducedForm.{is_reduced-means}

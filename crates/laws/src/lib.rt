@@ -1,3 +1,5 @@
+#![tactic(auto)]
+
 // Theorems about the store: no code.
 //
 // What its rows span, and that it is the one reduced form that spans it (01, "The store"); that moving it between the layouts loses nothing and

@@ -13,7 +13,7 @@ use native.Mathlib.Numerals.{add-one}
 use native.Mathlib.Omega.{arith}
 use lib.ListN.{length, set, take, drop, length-append, length-drop, length-set}
 use lib.Seq.{take_at, take_all, take-suc-set}
-use Rattle.lists.specs.Places.{sum, tab, at}
+use Rattle.lists.specs.Places.{sum, at}
 use Rattle.lists.proofs.Sums.{sum-zero, sum-suc, sum-next, sum-ext, sum_mono}
 use Rattle.lists.proofs.Tabs.{tab-length}
 use Rattle.lists.proofs.Parts.{part_at, cut-length}

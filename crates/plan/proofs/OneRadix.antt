@@ -1,6 +1,6 @@
 -- Where every digit has the radix s, entries and digits are those of 01: s^n entries, and n digits in radix s, the first the most
 -- significant. So 02, C-11 leaves the base's plans as they were. Assumes nothing.
-use mathlib.Core.Path.{◌≡◌, refl, sym, ap, ap₂, ◌∙◌}
+use mathlib.Core.Path.{◌≡◌, sym, ap, ap₂, ◌∙◌}
 use mathlib.Core.List.{List}
 use Prim.Native.Nat.{ℕ, zero, suc, ◌-◌, ◌*◌, ◌/◌, ◌%◌, ◌^◌, ◌<◌}
 use native.Mathlib.Nat.{mul_comm, pow-zero, pow-suc}

@@ -17,7 +17,7 @@ use lib.Dec.{leb, ltb}
 use lib.ListN.{length, take, drop, length-drop, take-append-drop}
 use lib.Seq.{take-suc, drop-cons, get_or-drop}
 use borrow.Author.Tests.{ltb-false, lt-ltb, le-ltb, le-leb, lt-leb, not-true}
-use Rattle.lists.specs.Places.{every, at}
+use Rattle.lists.specs.Places.{at}
 use Rattle.lists.proofs.Tests.{every-at}
 use Rattle.plan.specs.Numbers.{product, bad_radix, radices_fit}
 

@@ -9,15 +9,14 @@
 use mathlib.Core.Path.{◌≡◌, refl, sym, ap, ap₂, ◌∙◌}
 use mathlib.Core.Bool.{cond}
 use mathlib.Core.Logic.Iff
-use mathlib.Core.Logic.{◌↔◌, ◌≢◌}
+use mathlib.Core.Logic.{◌↔◌}
 use mathlib.Core.List.{List}
-use Prim.Native.Nat.{ℕ, ◌-◌, ◌<◌}
+use Prim.Native.Nat.{ℕ, ◌<◌}
 use native.Mathlib.Nat.{le_of_lt, mod-lt, mod-eq_of_lt}
 use native.Mathlib.Omega.{arith}
 use lib.Dec.{ltb}
 use lib.ListN.{length}
 use borrow.Author.Tests.{lt-ltb, ne_eqb, eqb-true, not-false}
-use Rattle.lists.specs.Places.{at}
 use Rattle.plan.specs.declared.admission.Own.TheVariants.{Store}
 use Rattle.plan.specs.Causes.{first, gives, answer}
 use Rattle.plan.specs.Numbers.{columns, product, Within}
@@ -31,7 +30,7 @@ use Rattle.store.specs.Filings.{is_contradiction}
 use Rattle.store.specs.Stages.{Ready}
 use Rattle.store.specs.Calls as filing
 use Rattle.store.specs.Calls.{equation, outcome_of, file_own, file_answer, answered}
-use Rattle.store.specs.Settled.{Standing, forced, free, standing, standing_of, Gives, settle_own, settle_causes, answer_of, values_of, settle_answer, Settles, FirstOpen}
+use Rattle.store.specs.Settled.{Standing, forced, free, standing_of, Gives, settle_own, settle_causes, answer_of, values_of, settle_answer, Settles, FirstOpen}
 use Rattle.store.specs.declared.elimination.Filed.TheVariants as filed
 use Rattle.store.specs.declared.settling.Settled.{Settled}
 use Rattle.store.specs.declared.settling.Settled.TheVariants.{Forced, Free}

@@ -16,7 +16,7 @@ use native.Mathlib.Decide.{dec_lt, ℕ_discrete}
 use native.Mathlib.Omega.{arith}
 use lib.Dec.{eqb, ltb}
 use borrow.Author.Tests.{lt-ltb, le-ltb, eq-eqb, ne_eqb}
-use Rattle.lists.specs.Places.{sum, at}
+use Rattle.lists.specs.Places.{sum}
 use Rattle.lists.proofs.Sums.{sum-ext}
 use Rattle.field.proofs.Modular.{cong-of, cong-add}
 use Rattle.plan.specs.Causes.{gives}

@@ -1,5 +1,5 @@
 use mathlib.Core.Path.{refl, sym, ap₂, ◌∙◌}
-use Prim.Native.Nat.{◌+◌, ◌-◌}
+use Prim.Native.Nat.{◌+◌}
 use native.Mathlib.Nat.{le_refl, one-mul}
 use native.Mathlib.Omega.{arith}
 use Rattle.lists.specs.Places.{at}
@@ -61,6 +61,6 @@ loop-j-preserved c =
 
 pub returns : goal.returns
 returns c = record {
-      acc_after = written_all c.loop-j.invariant.0 (omega arith);
-      short_after = written_all c.loop-j.invariant.1 (omega arith);
-    }
+  acc_after = written_all c.loop-j.invariant.0 (omega arith);
+  short_after = written_all c.loop-j.invariant.1 (omega arith);
+}

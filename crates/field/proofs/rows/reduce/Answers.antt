@@ -1,5 +1,4 @@
 use mathlib.Core.Path.{sym}
-use Prim.Native.Nat.{◌-◌}
 use native.Mathlib.Omega.{arith}
 use Rattle.lists.proofs.Overwrite.{written_none, written_next, written_all}
 use Rattle.field.proofs.rows.reduce.Goals as goal

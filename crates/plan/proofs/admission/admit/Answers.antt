@@ -14,7 +14,7 @@ use Rattle.plan.proofs.admission.admit.Goals as goal
 pub own_fits-requires : goal.own_fits-requires
 own_fits-requires c =
     let accepted : let a = c.args in checked a.p a.s a.n a.m a.t a.radices.now ≡ answer_of (Accepted c.in-Accepted.plan) =
-      (sym c.new.ensures ∙ ap answer_of c.in-Accepted.is) in
+    (sym c.new.ensures ∙ ap answer_of c.in-Accepted.is) in
     let q = accepted-plan _ _ _ _ _ _ accepted in
     let r = radices-of _ _ _ _ _ _ q.0 in record {
       within = accepted-within _ _ _ _ _ _ accepted;
@@ -25,17 +25,17 @@ own_fits-requires c =
 pub part_refusal-k-requires : goal.part_refusal-k-requires
 part_refusal-k-requires c =
     let accepted : let a = c.args in checked a.p a.s a.n a.m a.t a.radices.now ≡ answer_of (Accepted c.in-Accepted.plan) =
-      (sym c.new.ensures ∙ ap answer_of c.in-Accepted.is) in
+    (sym c.new.ensures ∙ ap answer_of c.in-Accepted.is) in
     accepted-within _ _ _ _ _ _ accepted
 
 pub returns-then-k-ne0 : goal.returns-then-k-ne0
 returns-then-k-ne0 c =
     let accepted : let a = c.args in checked a.p a.s a.n a.m a.t a.radices.now ≡ answer_of (Accepted c.in-Accepted.plan) =
-      (sym c.new.ensures ∙ ap answer_of c.in-Accepted.is) in
+    (sym c.new.ensures ∙ ap answer_of c.in-Accepted.is) in
     let parts : let a = c.args in
     let Q = c.in-Accepted.plan in
     c.part_refusal-k.result ≡ first (part_causes (lend Q a.radices.now a.weights.now a.tables.now a.d.now) (own_fits a.own Q a.radices.now)) =
-      (let a = c.args in
+    (let a = c.args in
     let Q = c.in-Accepted.plan in
     c.part_refusal-k.ensures
     ∙ ap (λ (b : Bool). first (part_causes (lend Q a.radices.now a.weights.now a.tables.now a.d.now) b)) c.own_fits.ensures) in
@@ -47,11 +47,11 @@ returns-in-Refused c = admit-numbers _ _ _ _ _ _ _ _ _ _ _ (sym c.new.ensures �
 pub returns-else-k-ne0 : goal.returns-else-k-ne0
 returns-else-k-ne0 c =
     let accepted : let a = c.args in checked a.p a.s a.n a.m a.t a.radices.now ≡ answer_of (Accepted c.in-Accepted.plan) =
-      (sym c.new.ensures ∙ ap answer_of c.in-Accepted.is) in
+    (sym c.new.ensures ∙ ap answer_of c.in-Accepted.is) in
     let parts : let a = c.args in
     let Q = c.in-Accepted.plan in
     c.part_refusal-k.result ≡ first (part_causes (lend Q a.radices.now a.weights.now a.tables.now a.d.now) (own_fits a.own Q a.radices.now)) =
-      (let a = c.args in
+    (let a = c.args in
     let Q = c.in-Accepted.plan in
     c.part_refusal-k.ensures
     ∙ ap (λ (b : Bool). first (part_causes (lend Q a.radices.now a.weights.now a.tables.now a.d.now) b)) c.own_fits.ensures) in

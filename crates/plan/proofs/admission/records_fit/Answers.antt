@@ -13,11 +13,11 @@ product-requires c = radices-positive _ _ c.requires.radices_value
 pub returns-then-records-product : goal.returns-then-records-product
 returns-then-records-product c =
     let whole : c.product.result ≡ product c.args.radices.now =
-      (omega (arith, c.product.ensures, c.requires.radices_bound)) in
+    (omega (arith, c.product.ensures, c.requires.radices_bound)) in
     rw (sym whole, ne_eqb _ _ c.if-records-product.true)
 
 pub returns : goal.returns
 returns c =
     let whole : c.product.result ≡ product c.args.radices.now =
-      (omega (arith, c.product.ensures, c.requires.radices_bound)) in
+    (omega (arith, c.product.ensures, c.requires.radices_bound)) in
     rw (sym whole, eq-eqb _ _ c.if-records-product.false)

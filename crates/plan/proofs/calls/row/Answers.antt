@@ -18,14 +18,14 @@ pub entries-requires : goal.entries-requires
 entries-requires c =
     let admitted : let a = c.args in
     Admitted (given a.p a.s a.n a.m a.t a.radices.now a.weights.now a.tables.now a.d.now) (Row (length a.row.now)) c.in-Accepted.plan =
-      (admission _ _ (sym c.admit.ensures ∙ ap answer_of c.in-Accepted.is)) in
+    (admission _ _ (sym c.admit.ensures ∙ ap answer_of c.in-Accepted.is)) in
     admitted.lent.radices
 
 pub returns-then-entries-entry : goal.returns-then-entries-entry
 returns-then-entries-entry c =
     let admitted : let a = c.args in
     Admitted (given a.p a.s a.n a.m a.t a.radices.now a.weights.now a.tables.now a.d.now) (Row (length a.row.now)) c.in-Accepted.plan =
-      (admission _ _ (sym c.admit.ensures ∙ ap answer_of c.in-Accepted.is)) in
+    (admission _ _ (sym c.admit.ensures ∙ ap answer_of c.in-Accepted.is)) in
     let r = c in
     let a = admitted in
     let far : product c.args.radices.now ≤ c.args.entry = omega (arith, c.entries.ensures, c.if-entries-entry.true) in record {
@@ -37,7 +37,7 @@ pub fill_row-requires : goal.fill_row-requires
 fill_row-requires c =
     let admitted : let a = c.args in
     Admitted (given a.p a.s a.n a.m a.t a.radices.now a.weights.now a.tables.now a.d.now) (Row (length a.row.now)) c.in-Accepted.plan =
-      (admission _ _ (sym c.admit.ensures ∙ ap answer_of c.in-Accepted.is)) in
+    (admission _ _ (sym c.admit.ensures ∙ ap answer_of c.in-Accepted.is)) in
     let a = admitted in record {
       within = a.within;
       lent = a.lent;
@@ -55,7 +55,7 @@ pub returns-else-entries-entry : goal.returns-else-entries-entry
 returns-else-entries-entry c =
     let admitted : let a = c.args in
     Admitted (given a.p a.s a.n a.m a.t a.radices.now a.weights.now a.tables.now a.d.now) (Row (length a.row.now)) c.in-Accepted.plan =
-      (admission _ _ (sym c.admit.ensures ∙ ap answer_of c.in-Accepted.is)) in
+    (admission _ _ (sym c.admit.ensures ∙ ap answer_of c.in-Accepted.is)) in
     let r = c in
     let a = admitted in
     let args = c.args in

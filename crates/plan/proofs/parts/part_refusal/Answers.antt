@@ -18,26 +18,26 @@ returns-then-not-lengths_fit c = rw (eq-eqb _ _ c.if-radices-plan.false, sym c.l
 pub returns-then-not-own : goal.returns-then-not-own
 returns-then-not-own c =
     let count : let a = c.args in eqb (length a.radices.now) a.plan.n ≡ true =
-      (eq-eqb _ _ c.if-radices-plan.false) in
+    (eq-eqb _ _ c.if-radices-plan.false) in
     let lengths : let a = c.args in lengths_fit a.plan a.weights.now a.tables.now a.d.now ≡ true =
-      (sym c.lengths_fit.ensures ∙ not-false _ (ap not c.if-not-lengths_fit.false)) in
+    (sym c.lengths_fit.ensures ∙ not-false _ (ap not c.if-not-lengths_fit.false)) in
     let r = c in
     rw (count, lengths, not-true c.args.own (ap not c.if-not-own.true))
 
 pub returns-then-not-values_fit : goal.returns-then-not-values_fit
 returns-then-not-values_fit c =
     let count : let a = c.args in eqb (length a.radices.now) a.plan.n ≡ true =
-      (eq-eqb _ _ c.if-radices-plan.false) in
+    (eq-eqb _ _ c.if-radices-plan.false) in
     let lengths : let a = c.args in lengths_fit a.plan a.weights.now a.tables.now a.d.now ≡ true =
-      (sym c.lengths_fit.ensures ∙ not-false _ (ap not c.if-not-lengths_fit.false)) in
+    (sym c.lengths_fit.ensures ∙ not-false _ (ap not c.if-not-lengths_fit.false)) in
     let r = c in
     rw (count, lengths, not-false c.args.own (ap not c.if-not-own.false), sym c.values_fit.ensures ∙ not-true _ (ap not c.if-not-values_fit.true))
 
 pub returns : goal.returns
 returns c =
     let count : let a = c.args in eqb (length a.radices.now) a.plan.n ≡ true =
-      (eq-eqb _ _ c.if-radices-plan.false) in
+    (eq-eqb _ _ c.if-radices-plan.false) in
     let lengths : let a = c.args in lengths_fit a.plan a.weights.now a.tables.now a.d.now ≡ true =
-      (sym c.lengths_fit.ensures ∙ not-false _ (ap not c.if-not-lengths_fit.false)) in
+    (sym c.lengths_fit.ensures ∙ not-false _ (ap not c.if-not-lengths_fit.false)) in
     let r = c in
     rw (count, lengths, not-false c.args.own (ap not c.if-not-own.false), sym c.values_fit.ensures ∙ not-false _ (ap not c.if-not-values_fit.false))

@@ -1,5 +1,5 @@
 use mathlib.Core.Path.{◌≡◌, refl, sym, ap, ◌∙◌}
-use Prim.Native.Nat.{ℕ, ◌+◌, ◌-◌, ◌*◌, ◌≤◌}
+use Prim.Native.Nat.{ℕ, ◌+◌, ◌*◌, ◌≤◌}
 use native.Mathlib.Nat.{mul-le-mul, min-eq_left, min-eq_right, le_antisymm}
 use native.Mathlib.Omega.{arith}
 use lib.ListN.{length, take}
@@ -30,7 +30,7 @@ returns-then-r-gt-ENTRIES c =
     let next : let R = c.args.radices.now in
     let loop = c.loop-j in
     loop.r * at R loop.j ≡ specs.product (take (loop.j + 1) R) =
-      (let R = c.args.radices.now in
+    (let R = c.args.radices.now in
     let loop = c.loop-j in
     ap (λ (x : ℕ). x * at R loop.j) loop.invariant.1 ∙ sym (product-next R loop.j c.loop-j-test.true)) in
     let r = c in
@@ -48,7 +48,7 @@ loop-j-preserved c =
     let next : let R = c.args.radices.now in
     let loop = c.loop-j in
     loop.r * at R loop.j ≡ specs.product (take (loop.j + 1) R) =
-      (let R = c.args.radices.now in
+    (let R = c.args.radices.now in
     let loop = c.loop-j in
     ap (λ (x : ℕ). x * at R loop.j) loop.invariant.1 ∙ sym (product-next R loop.j c.loop-j-test.true)) in
     (omega arith, next, c.if-r-gt-ENTRIES.false)

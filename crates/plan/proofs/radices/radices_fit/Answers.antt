@@ -1,7 +1,6 @@
 use Rattle.plan.proofs.radices.radices_fit.Invariants.{fits}
 use mathlib.Core.Path.{refl, sym, ap, ap₂, ◌∙◌}
-use mathlib.Core.Bool.{true, false, not, ◌&&◌, true≢false}
-use Prim.Native.Nat.{◌-◌}
+use mathlib.Core.Bool.{not, ◌&&◌, true≢false}
 use native.Mathlib.Nat.{le_antisymm}
 use native.Mathlib.Omega.{arith}
 use borrow.Author.Tests.{not-true, not-false}

@@ -22,7 +22,7 @@ pub overflow_add-end : goal.overflow_add-end
 overflow_add-end c =
     let size : ℕ = c.variables-l.result in
     let room : let P = c.args.plan in c.loop-b.from + size ≤ P.t * variables P =
-      (let loop = c.loop-b in
+    (let loop = c.loop-b in
     block_room c.args.plan loop.from size loop.b loop.invariant.1 c.variables-l.ensures c.loop-b-test.true) in
     omega (arith, room)
 
@@ -36,20 +36,20 @@ pub slice_bounds-dot-end : goal.slice_bounds-dot-end
 slice_bounds-dot-end c =
     let size : ℕ = c.variables-l.result in
     let room : let P = c.args.plan in c.loop-b.from + size ≤ P.t * variables P =
-      (let loop = c.loop-b in
+    (let loop = c.loop-b in
     block_room c.args.plan loop.from size loop.b loop.invariant.1 c.variables-l.ensures c.loop-b-test.true) in
     let d-fits : c.loop-b.from + size ≤ length c.args.d.now =
-      (rw c.requires.d_len room) in
+    (rw c.requires.d_len room) in
     d-fits
 
 pub dot-g-requires : goal.dot-g-requires
 dot-g-requires c =
     let size : ℕ = c.variables-l.result in
     let room : let P = c.args.plan in c.loop-b.from + size ≤ P.t * variables P =
-      (let loop = c.loop-b in
+    (let loop = c.loop-b in
     block_room c.args.plan loop.from size loop.b loop.invariant.1 c.variables-l.ensures c.loop-b-test.true) in
     let d-fits : c.loop-b.from + size ≤ length c.args.d.now =
-      (rw c.requires.d_len room) in
+    (rw c.requires.d_len room) in
     let r = c in
     let pre = c.requires in
     let e = cut-length c.args.d.now r.loop-b.from size d-fits ∙ r.variables-l.ensures in record {
@@ -68,10 +68,10 @@ pub slice_bounds-set_multiple-end : goal.slice_bounds-set_multiple-end
 slice_bounds-set_multiple-end c =
     let size : ℕ = c.variables-l.result in
     let room : let P = c.args.plan in c.loop-b.from + size ≤ P.t * variables P =
-      (let loop = c.loop-b in
+    (let loop = c.loop-b in
     block_room c.args.plan loop.from size loop.b loop.invariant.1 c.variables-l.ensures c.loop-b-test.true) in
     let row_fits : c.loop-b.from + size ≤ length c.loop-b.row =
-      (let loop = c.loop-b in
+    (let loop = c.loop-b in
     rw loop.invariant.0.same (row_room c.args.plan loop.from size room)) in
     row_fits
 
@@ -79,10 +79,10 @@ pub set_multiple-requires : goal.set_multiple-requires
 set_multiple-requires c =
     let size : ℕ = c.variables-l.result in
     let room : let P = c.args.plan in c.loop-b.from + size ≤ P.t * variables P =
-      (let loop = c.loop-b in
+    (let loop = c.loop-b in
     block_room c.args.plan loop.from size loop.b loop.invariant.1 c.variables-l.ensures c.loop-b-test.true) in
     let row_fits : c.loop-b.from + size ≤ length c.loop-b.row =
-      (let loop = c.loop-b in
+    (let loop = c.loop-b in
     rw loop.invariant.0.same (row_room c.args.plan loop.from size room)) in
     let then = c in
     let r = c in
@@ -119,11 +119,11 @@ pub overflow_add-end-2 : goal.overflow_add-end-2
 overflow_add-end-2 c =
     let size : ℕ = c.variables-l.result in
     let last-from : let P = c.args.plan in c.loop-b.from ≡ P.t * variables P =
-      (let P = c.args.plan in
+    (let P = c.args.plan in
     let b : c.loop-b.b ≡ P.t = omega arith in
     c.loop-b.invariant.1 ∙ ap (λ (k : ℕ). k * variables P) b) in
     let last_end : c.loop-b.from + size ≡ columns c.args.plan =
-      (last-room c.args.plan c.loop-b.from size last-from c.variables-l.ensures) in
+    (last-room c.args.plan c.loop-b.from size last-from c.variables-l.ensures) in
     rw last_end (omega arith)
 
 pub slice_bounds-set_multiple-count-2 : goal.slice_bounds-set_multiple-count-2
@@ -136,26 +136,26 @@ pub slice_bounds-set_multiple-end-2 : goal.slice_bounds-set_multiple-end-2
 slice_bounds-set_multiple-end-2 c =
     let size : ℕ = c.variables-l.result in
     let last-from : let P = c.args.plan in c.loop-b.from ≡ P.t * variables P =
-      (let P = c.args.plan in
+    (let P = c.args.plan in
     let b : c.loop-b.b ≡ P.t = omega arith in
     c.loop-b.invariant.1 ∙ ap (λ (k : ℕ). k * variables P) b) in
     let last_end : c.loop-b.from + size ≡ columns c.args.plan =
-      (last-room c.args.plan c.loop-b.from size last-from c.variables-l.ensures) in
+    (last-room c.args.plan c.loop-b.from size last-from c.variables-l.ensures) in
     let last_fits : c.loop-b.from + size ≤ length c.loop-b.row =
-      (rw c.loop-b.invariant.0.same (le_of_eq last_end)) in
+    (rw c.loop-b.invariant.0.same (le_of_eq last_end)) in
     last_fits
 
 pub set_multiple-requires-2 : goal.set_multiple-requires-2
 set_multiple-requires-2 c =
     let size : ℕ = c.variables-l.result in
     let last-from : let P = c.args.plan in c.loop-b.from ≡ P.t * variables P =
-      (let P = c.args.plan in
+    (let P = c.args.plan in
     let b : c.loop-b.b ≡ P.t = omega arith in
     c.loop-b.invariant.1 ∙ ap (λ (k : ℕ). k * variables P) b) in
     let last_end : c.loop-b.from + size ≡ columns c.args.plan =
-      (last-room c.args.plan c.loop-b.from size last-from c.variables-l.ensures) in
+    (last-room c.args.plan c.loop-b.from size last-from c.variables-l.ensures) in
     let last_fits : c.loop-b.from + size ≤ length c.loop-b.row =
-      (rw c.loop-b.invariant.0.same (le_of_eq last_end)) in
+    (rw c.loop-b.invariant.0.same (le_of_eq last_end)) in
     let r = c in
     let pre = c.requires in
     let e = cut-length r.loop-b.row r.loop-b.from size last_fits ∙ r.variables-l.ensures in record {
@@ -169,14 +169,14 @@ pub returns : goal.returns
 returns c =
     let size : ℕ = c.variables-l.result in
     let last-from : let P = c.args.plan in c.loop-b.from ≡ P.t * variables P =
-      (let P = c.args.plan in
+    (let P = c.args.plan in
     let b : c.loop-b.b ≡ P.t = omega arith in
     c.loop-b.invariant.1 ∙ ap (λ (k : ℕ). k * variables P) b) in
     let whole : let r = c in
     let args = c.args in
     let row = put_mid r.loop-b.from (r.loop-b.from + size - r.loop-b.from) r.loop-b.row c.set_multiple-2.new.out in
     Written (columns args.plan) (row_place args.plan args.d.now args.x.now) args.row.now (columns args.plan) row =
-      (let r = c in
+    (let r = c in
     let args = c.args in
     let xs = c.requires.x_len in
     last_turn args.plan args.d.now args.x.now size r.loop-b.invariant.0 last-from r.variables-l.ensures xs.0 xs.1

@@ -21,37 +21,37 @@ overflow_sub-j c = omega arith
 pub bounds-radices-j : goal.bounds-radices-j
 bounds-radices-j c =
     let lent : c.loop-j.j - 1 < length c.args.radices.now =
-      (omega (arith, c.loop-j.invariant.near)) in
+    (omega (arith, c.loop-j.invariant.near)) in
     lent
 
 pub nonzero_rem-x : goal.nonzero_rem-x
 nonzero_rem-x c =
     let lent : c.loop-j.j - 1 < length c.args.radices.now =
-      (omega (arith, c.loop-j.invariant.near)) in
+    (omega (arith, c.loop-j.invariant.near)) in
     let positive : 0 < at c.args.radices.now (c.loop-j.j - 1) =
-      (let s = c in radices-positive s.args.plan.p s.args.radices.now s.requires.radices.fit _ lent) in
+    (let s = c in radices-positive s.args.plan.p s.args.radices.now s.requires.radices.fit _ lent) in
     positive
 
 pub overflow_cast-x : goal.overflow_cast-x
 overflow_cast-x c =
     let lent : c.loop-j.j - 1 < length c.args.radices.now =
-      (omega (arith, c.loop-j.invariant.near)) in
+    (omega (arith, c.loop-j.invariant.near)) in
     let positive : 0 < at c.args.radices.now (c.loop-j.j - 1) =
-      (let s = c in radices-positive s.args.plan.p s.args.radices.now s.requires.radices.fit _ lent) in
+    (let s = c in radices-positive s.args.plan.p s.args.radices.now s.requires.radices.fit _ lent) in
     let loop = c.loop-j in omega (arith, mod-lt loop.rest positive, c.type_inv.radices (loop.j - 1))
 
 pub bounds-x-j : goal.bounds-x-j
 bounds-x-j c =
     let lent : c.loop-j.j - 1 < length c.args.radices.now =
-      (omega (arith, c.loop-j.invariant.near)) in
+    (omega (arith, c.loop-j.invariant.near)) in
     omega (arith, lent, c.loop-j.invariant.size)
 
 pub nonzero_div-rest : goal.nonzero_div-rest
 nonzero_div-rest c =
     let lent : c.loop-j.j - 1 < length c.args.radices.now =
-      (omega (arith, c.loop-j.invariant.near)) in
+    (omega (arith, c.loop-j.invariant.near)) in
     let positive : 0 < at c.args.radices.now (c.loop-j.j - 1) =
-      (let s = c in radices-positive s.args.plan.p s.args.radices.now s.requires.radices.fit _ lent) in
+    (let s = c in radices-positive s.args.plan.p s.args.radices.now s.requires.radices.fit _ lent) in
     positive
 
 pub loop-j-smaller : goal.loop-j-smaller

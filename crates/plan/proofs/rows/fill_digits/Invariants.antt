@@ -1,5 +1,4 @@
 -- `plan::rows::fill_digits` meets its contract: a turn splits one more digit off the entry (`Split` of `Digits`). Assumes nothing.
-use Prim.Native.Nat.{◌-◌}
 use Rattle.plan.proofs.Digits.{Split}
 use Rattle.plan.proofs.rows.fill_digits.Given as goal
 

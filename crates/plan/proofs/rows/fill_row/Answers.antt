@@ -26,36 +26,36 @@ fill_variables-requires c =
 pub slice_bounds-x-end-2 : goal.slice_bounds-x-end-2
 slice_bounds-x-end-2 c =
     let plan : Given =
-      (let a = c.args in lend a.plan a.radices.now a.weights.now a.tables.now a.d.now) in
+    (let a = c.args in lend a.plan a.radices.now a.weights.now a.tables.now a.d.now) in
     let filled : List ℕ =
-      (c.fill_variables.new.x) in
+    (c.fill_variables.new.x) in
     let count : length filled ≡ c.variables-l.result =
-      (ap length c.fill_variables.ensures ∙ values_length plan c.args.entry ∙ sym c.variables-l.ensures) in
+    (ap length c.fill_variables.ensures ∙ values_length plan c.args.entry ∙ sym c.variables-l.ensures) in
     simp length-append (omega (arith, count))
 
 pub slice_bounds-fill_blocks-end : goal.slice_bounds-fill_blocks-end
 slice_bounds-fill_blocks-end c =
     let plan : Given =
-      (let a = c.args in lend a.plan a.radices.now a.weights.now a.tables.now a.d.now) in
+    (let a = c.args in lend a.plan a.radices.now a.weights.now a.tables.now a.d.now) in
     let filled : List ℕ =
-      (c.fill_variables.new.x) in
+    (c.fill_variables.new.x) in
     let count : length filled ≡ c.variables-l.result =
-      (ap length c.fill_variables.ensures ∙ values_length plan c.args.entry ∙ sym c.variables-l.ensures) in
+    (ap length c.fill_variables.ensures ∙ values_length plan c.args.entry ∙ sym c.variables-l.ensures) in
     let front : (rest : List ℕ) → take c.variables-l.result (filled ++ rest) ≡ values plan c.args.entry =
-      (λ rest. take_at filled rest c.variables-l.result count ∙ c.fill_variables.ensures) in
+    (λ rest. take_at filled rest c.variables-l.result count ∙ c.fill_variables.ensures) in
     let r = c in
     sym (ap length (front _) ∙ values_length plan c.args.entry ∙ sym r.variables-l.ensures)
 
 pub fill_blocks-requires : goal.fill_blocks-requires
 fill_blocks-requires c =
     let plan : Given =
-      (let a = c.args in lend a.plan a.radices.now a.weights.now a.tables.now a.d.now) in
+    (let a = c.args in lend a.plan a.radices.now a.weights.now a.tables.now a.d.now) in
     let filled : List ℕ =
-      (c.fill_variables.new.x) in
+    (c.fill_variables.new.x) in
     let count : length filled ≡ c.variables-l.result =
-      (ap length c.fill_variables.ensures ∙ values_length plan c.args.entry ∙ sym c.variables-l.ensures) in
+    (ap length c.fill_variables.ensures ∙ values_length plan c.args.entry ∙ sym c.variables-l.ensures) in
     let front : (rest : List ℕ) → take c.variables-l.result (filled ++ rest) ≡ values plan c.args.entry =
-      (λ rest. take_at filled rest c.variables-l.result count ∙ c.fill_variables.ensures) in
+    (λ rest. take_at filled rest c.variables-l.result count ∙ c.fill_variables.ensures) in
     let r = c in
     let pre = c.requires in
     let G = plan in
@@ -72,13 +72,13 @@ pub returns : goal.returns
 unfolding row
 returns c =
     let plan : Given =
-      (let a = c.args in lend a.plan a.radices.now a.weights.now a.tables.now a.d.now) in
+    (let a = c.args in lend a.plan a.radices.now a.weights.now a.tables.now a.d.now) in
     let filled : List ℕ =
-      (c.fill_variables.new.x) in
+    (c.fill_variables.new.x) in
     let count : length filled ≡ c.variables-l.result =
-      (ap length c.fill_variables.ensures ∙ values_length plan c.args.entry ∙ sym c.variables-l.ensures) in
+    (ap length c.fill_variables.ensures ∙ values_length plan c.args.entry ∙ sym c.variables-l.ensures) in
     let front : (rest : List ℕ) → take c.variables-l.result (filled ++ rest) ≡ values plan c.args.entry =
-      (λ rest. take_at filled rest c.variables-l.result count ∙ c.fill_variables.ensures) in
+    (λ rest. take_at filled rest c.variables-l.result count ∙ c.fill_variables.ensures) in
     let r = c in
     let G = plan in
     c.fill_blocks.ensures ∙ ap (λ (xs : List ℕ). tab (columns G.numbers) (row_place G.numbers G.products xs)) (front _)

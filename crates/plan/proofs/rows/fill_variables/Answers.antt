@@ -1,5 +1,5 @@
 use mathlib.Core.Path.{sym, ◌∙◌}
-use Prim.Native.Nat.{◌+◌, ◌-◌, ◌*◌, ◌≤◌}
+use Prim.Native.Nat.{◌+◌, ◌*◌, ◌≤◌}
 use native.Mathlib.Omega.{arith}
 use lib.ListN.{length}
 use lib.Seq.{length-take-le}
@@ -36,7 +36,7 @@ overflow_add-place c = omega arith
 pub overflow_add-end : goal.overflow_add-end
 overflow_add-end c =
     let weights-room : let a = c.args in c.loop-k.begin + (a.plan.n + c.loop-k.k) ≤ length a.weights.now =
-      (let a = c.args in
+    (let a = c.args in
     let loop = c.loop-k in
     link-room a.plan a.weights.now loop.begin loop.k c.requires.lent.weights-length loop.invariant.begins c.loop-k-test.true) in
     omega (arith, weights-room)
@@ -44,14 +44,14 @@ overflow_add-end c =
 pub overflow_mul-table : goal.overflow_mul-table
 overflow_mul-table c =
     let tables-room : let a = c.args in c.loop-k.k * a.plan.p + a.plan.p ≤ length a.tables.now =
-      (let a = c.args in
+    (let a = c.args in
     table-room a.plan a.tables.now c.loop-k.k c.requires.lent.tables-length c.loop-k-test.true) in
     omega (arith, tables-room)
 
 pub overflow_add-table_end : goal.overflow_add-table_end
 overflow_add-table_end c =
     let tables-room : let a = c.args in c.loop-k.k * a.plan.p + a.plan.p ≤ length a.tables.now =
-      (let a = c.args in
+    (let a = c.args in
     table-room a.plan a.tables.now c.loop-k.k c.requires.lent.tables-length c.loop-k-test.true) in
     omega (arith, tables-room)
 
@@ -64,7 +64,7 @@ slice_bounds-link-start c = omega arith
 pub slice_bounds-link-end : goal.slice_bounds-link-end
 slice_bounds-link-end c =
     let weights-room : let a = c.args in c.loop-k.begin + (a.plan.n + c.loop-k.k) ≤ length a.weights.now =
-      (let a = c.args in
+    (let a = c.args in
     let loop = c.loop-k in
     link-room a.plan a.weights.now loop.begin loop.k c.requires.lent.weights-length loop.invariant.begins c.loop-k-test.true) in
     weights-room
@@ -78,7 +78,7 @@ slice_bounds-link-start-in-loop-k c = omega arith
 pub slice_bounds-link-end-in-loop-k : goal.slice_bounds-link-end-in-loop-k
 slice_bounds-link-end-in-loop-k c =
     let tables-room : let a = c.args in c.loop-k.k * a.plan.p + a.plan.p ≤ length a.tables.now =
-      (let a = c.args in
+    (let a = c.args in
     table-room a.plan a.tables.now c.loop-k.k c.requires.lent.tables-length c.loop-k-test.true) in
     tables-room
 
@@ -91,11 +91,11 @@ slice_bounds-link-end-in-loop-k-3 c = sym (length-take-le _ c.loop-k.x (omega ar
 pub link-v-requires : goal.link-v-requires
 link-v-requires c =
     let weights-room : let a = c.args in c.loop-k.begin + (a.plan.n + c.loop-k.k) ≤ length a.weights.now =
-      (let a = c.args in
+    (let a = c.args in
     let loop = c.loop-k in
     link-room a.plan a.weights.now loop.begin loop.k c.requires.lent.weights-length loop.invariant.begins c.loop-k-test.true) in
     let tables-room : let a = c.args in c.loop-k.k * a.plan.p + a.plan.p ≤ length a.tables.now =
-      (let a = c.args in
+    (let a = c.args in
     table-room a.plan a.tables.now c.loop-k.k c.requires.lent.tables-length c.loop-k-test.true) in
     let r = c in
     let loop = c.loop-k in
@@ -121,7 +121,7 @@ loop-k-smaller c = omega arith
 pub loop-k-preserved : goal.loop-k-preserved
 loop-k-preserved c =
     let weights-room : let a = c.args in c.loop-k.begin + (a.plan.n + c.loop-k.k) ≤ length a.weights.now =
-      (let a = c.args in
+    (let a = c.args in
     let loop = c.loop-k in
     link-room a.plan a.weights.now loop.begin loop.k c.requires.lent.weights-length loop.invariant.begins c.loop-k-test.true) in
     let r = c in

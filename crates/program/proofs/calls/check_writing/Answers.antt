@@ -11,7 +11,7 @@ pub writing_refusal-requires : goal.writing_refusal-requires
 writing_refusal-requires c =
     let admitted : let a = c.args in
     Admitted (given a.p a.s a.n a.m a.t a.radices.now a.weights.now a.tables.now a.d.now) (Row (length a.beta.now)) c.in-Accepted.plan =
-      (admission _ _ (sym c.admit.ensures ∙ ap answer_of c.in-Accepted.is)) in
+    (admission _ _ (sym c.admit.ensures ∙ ap answer_of c.in-Accepted.is)) in
     admitted.within
 
 pub returns-in-Refused : goal.returns-in-Refused
@@ -21,5 +21,5 @@ pub returns-in-Accepted : goal.returns-in-Accepted
 returns-in-Accepted c =
     let admitted : let a = c.args in
     Admitted (given a.p a.s a.n a.m a.t a.radices.now a.weights.now a.tables.now a.d.now) (Row (length a.beta.now)) c.in-Accepted.plan =
-      (admission _ _ (sym c.admit.ensures ∙ ap answer_of c.in-Accepted.is)) in
+    (admission _ _ (sym c.admit.ensures ∙ ap answer_of c.in-Accepted.is)) in
     c.writing_refusal.ensures ∙ sym (admitted.rest _)

@@ -22,30 +22,30 @@ pub well_formed-requires : goal.well_formed-requires
 well_formed-requires c =
     let admitted : let a = c.args in
     Admitted (given a.p a.s a.n a.m a.t a.radices.now a.weights.now a.tables.now a.d.now) (Digits (length a.digits.now)) c.in-Accepted.plan =
-      (admission _ _ (sym c.admit.ensures ∙ ap answer_of c.in-Accepted.is)) in
+    (admission _ _ (sym c.admit.ensures ∙ ap answer_of c.in-Accepted.is)) in
     admitted.within
 
 pub returns-then-not-well_formed : goal.returns-then-not-well_formed
 returns-then-not-well_formed c =
     let admitted : let a = c.args in
     Admitted (given a.p a.s a.n a.m a.t a.radices.now a.weights.now a.tables.now a.d.now) (Digits (length a.digits.now)) c.in-Accepted.plan =
-      (admission _ _ (sym c.admit.ensures ∙ ap answer_of c.in-Accepted.is)) in
+    (admission _ _ (sym c.admit.ensures ∙ ap answer_of c.in-Accepted.is)) in
     refused-answer 11 _ _ (sym (admitted.rest _ ∙ rw (sym c.well_formed-in-Accepted.ensures ∙ not-true _ (ap not c.if-not-well_formed.true)))) (omega arith)
 
 pub digits_fit-requires : goal.digits_fit-requires
 digits_fit-requires c =
     let admitted : let a = c.args in
     Admitted (given a.p a.s a.n a.m a.t a.radices.now a.weights.now a.tables.now a.d.now) (Digits (length a.digits.now)) c.in-Accepted.plan =
-      (admission _ _ (sym c.admit.ensures ∙ ap answer_of c.in-Accepted.is)) in
+    (admission _ _ (sym c.admit.ensures ∙ ap answer_of c.in-Accepted.is)) in
     let a = admitted in a.lent.radices.count ∙ sym (eqb-true _ _ a.own-fits)
 
 pub returns-then-not-digits_fit : goal.returns-then-not-digits_fit
 returns-then-not-digits_fit c =
     let admitted : let a = c.args in
     Admitted (given a.p a.s a.n a.m a.t a.radices.now a.weights.now a.tables.now a.d.now) (Digits (length a.digits.now)) c.in-Accepted.plan =
-      (admission _ _ (sym c.admit.ensures ∙ ap answer_of c.in-Accepted.is)) in
+    (admission _ _ (sym c.admit.ensures ∙ ap answer_of c.in-Accepted.is)) in
     let good : let r = c in well_formed r.in-Accepted.plan c.args.steps.now ≡ true =
-      (sym c.well_formed-in-Accepted.ensures ∙ not-false _ (ap not c.if-not-well_formed.false)) in
+    (sym c.well_formed-in-Accepted.ensures ∙ not-false _ (ap not c.if-not-well_formed.false)) in
     let passed = c in
     refused-answer 12 _ _ (sym (admitted.rest _ ∙ rw (good, sym c.digits_fit.ensures ∙ not-true _ (ap not c.if-not-digits_fit.true)))) (omega arith)
 
@@ -53,11 +53,11 @@ pub run_steps-requires : goal.run_steps-requires
 run_steps-requires c =
     let admitted : let a = c.args in
     Admitted (given a.p a.s a.n a.m a.t a.radices.now a.weights.now a.tables.now a.d.now) (Digits (length a.digits.now)) c.in-Accepted.plan =
-      (admission _ _ (sym c.admit.ensures ∙ ap answer_of c.in-Accepted.is)) in
+    (admission _ _ (sym c.admit.ensures ∙ ap answer_of c.in-Accepted.is)) in
     let good : let r = c in well_formed r.in-Accepted.plan c.args.steps.now ≡ true =
-      (sym c.well_formed-in-Accepted.ensures ∙ not-false _ (ap not c.if-not-well_formed.false)) in
+    (sym c.well_formed-in-Accepted.ensures ∙ not-false _ (ap not c.if-not-well_formed.false)) in
     let below : let r = c in digits_fit c.args.radices.now c.args.digits.now ≡ true =
-      (sym c.digits_fit.ensures ∙ not-false _ (ap not c.if-not-digits_fit.false)) in
+    (sym c.digits_fit.ensures ∙ not-false _ (ap not c.if-not-digits_fit.false)) in
     let passed = c in
     let r = passed in
     let P = r.in-Accepted.plan in
@@ -79,11 +79,11 @@ pub returns-else-not-digits_fit : goal.returns-else-not-digits_fit
 returns-else-not-digits_fit c =
     let admitted : let a = c.args in
     Admitted (given a.p a.s a.n a.m a.t a.radices.now a.weights.now a.tables.now a.d.now) (Digits (length a.digits.now)) c.in-Accepted.plan =
-      (admission _ _ (sym c.admit.ensures ∙ ap answer_of c.in-Accepted.is)) in
+    (admission _ _ (sym c.admit.ensures ∙ ap answer_of c.in-Accepted.is)) in
     let good : let r = c in well_formed r.in-Accepted.plan c.args.steps.now ≡ true =
-      (sym c.well_formed-in-Accepted.ensures ∙ not-false _ (ap not c.if-not-well_formed.false)) in
+    (sym c.well_formed-in-Accepted.ensures ∙ not-false _ (ap not c.if-not-well_formed.false)) in
     let below : let r = c in digits_fit c.args.radices.now c.args.digits.now ≡ true =
-      (sym c.digits_fit.ensures ∙ not-false _ (ap not c.if-not-digits_fit.false)) in
+    (sym c.digits_fit.ensures ∙ not-false _ (ap not c.if-not-digits_fit.false)) in
     let passed = c in
     let r = passed in
     let s = c.args in

@@ -24,43 +24,43 @@ returns-then-write_into-ne0 c =
 pub overflow_cast-p : goal.overflow_cast-p
 overflow_cast-p c =
     let lent : Given =
-      (let a = c.args in given a.p a.s a.n a.m a.t a.radices.now a.weights.now a.tables.now a.d.now) in
+    (let a = c.args in given a.p a.s a.n a.m a.t a.radices.now a.weights.now a.tables.now a.d.now) in
     let fine : let a = c.args in Unrefused lent (Row (length a.beta.now)) (write_own a.beta.now (length a.steps.now)) =
-      (unrefused _ _ _ (sym c.write_into.ensures.value ∙ c.if-write_into-ne0.false)) in
+    (unrefused _ _ _ (sym c.write_into.ensures.value ∙ c.if-write_into-ne0.false)) in
     omega (arith, prime-high fine.within)
 
 pub overflow_cast-s : goal.overflow_cast-s
 overflow_cast-s c =
     let lent : Given =
-      (let a = c.args in given a.p a.s a.n a.m a.t a.radices.now a.weights.now a.tables.now a.d.now) in
+    (let a = c.args in given a.p a.s a.n a.m a.t a.radices.now a.weights.now a.tables.now a.d.now) in
     let fine : let a = c.args in Unrefused lent (Row (length a.beta.now)) (write_own a.beta.now (length a.steps.now)) =
-      (unrefused _ _ _ (sym c.write_into.ensures.value ∙ c.if-write_into-ne0.false)) in
+    (unrefused _ _ _ (sym c.write_into.ensures.value ∙ c.if-write_into-ne0.false)) in
     omega (arith, prime-high fine.within, fine.within.value-high)
 
 pub step_count-end-requires : goal.step_count-end-requires
 step_count-end-requires c =
     let lent : Given =
-      (let a = c.args in given a.p a.s a.n a.m a.t a.radices.now a.weights.now a.tables.now a.d.now) in
+    (let a = c.args in given a.p a.s a.n a.m a.t a.radices.now a.weights.now a.tables.now a.d.now) in
     let fine : let a = c.args in Unrefused lent (Row (length a.beta.now)) (write_own a.beta.now (length a.steps.now)) =
-      (unrefused _ _ _ (sym c.write_into.ensures.value ∙ c.if-write_into-ne0.false)) in
+    (unrefused _ _ _ (sym c.write_into.ensures.value ∙ c.if-write_into-ne0.false)) in
     fine.within
 
 pub overflow_mul-end : goal.overflow_mul-end
 overflow_mul-end c =
     let lent : Given =
-      (let a = c.args in given a.p a.s a.n a.m a.t a.radices.now a.weights.now a.tables.now a.d.now) in
+    (let a = c.args in given a.p a.s a.n a.m a.t a.radices.now a.weights.now a.tables.now a.d.now) in
     let fine : let a = c.args in Unrefused lent (Row (length a.beta.now)) (write_own a.beta.now (length a.steps.now)) =
-      (unrefused _ _ _ (sym c.write_into.ensures.value ∙ c.if-write_into-ne0.false)) in
+    (unrefused _ _ _ (sym c.write_into.ensures.value ∙ c.if-write_into-ne0.false)) in
     omega (arith, c.step_count-end.ensures, step-limit lent.numbers fine.within)
 
 pub slice_bounds-result-end-2 : goal.slice_bounds-result-end-2
 slice_bounds-result-end-2 c =
     let lent : Given =
-      (let a = c.args in given a.p a.s a.n a.m a.t a.radices.now a.weights.now a.tables.now a.d.now) in
+    (let a = c.args in given a.p a.s a.n a.m a.t a.radices.now a.weights.now a.tables.now a.d.now) in
     let fine : let a = c.args in Unrefused lent (Row (length a.beta.now)) (write_own a.beta.now (length a.steps.now)) =
-      (unrefused _ _ _ (sym c.write_into.ensures.value ∙ c.if-write_into-ne0.false)) in
+    (unrefused _ _ _ (sym c.write_into.ensures.value ∙ c.if-write_into-ne0.false)) in
     let fits : 4 * step_count lent.numbers ≤ length c.args.steps.now =
-      (let a = c.args in writing-fits lent.numbers a.beta.now (length a.steps.now) fine.rest-none) in
+    (let a = c.args in writing-fits lent.numbers a.beta.now (length a.steps.now) fine.rest-none) in
     let write-into = c.write_into in
     sym (length-take-le _ _ (omega (arith, c.step_count-end.ensures, fits, write-into.auto.steps)))
 

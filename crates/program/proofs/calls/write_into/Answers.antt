@@ -17,14 +17,14 @@ pub writing_refusal-k-requires : goal.writing_refusal-k-requires
 writing_refusal-k-requires c =
     let admitted : let a = c.args in
     Admitted (given a.p a.s a.n a.m a.t a.radices.now a.weights.now a.tables.now a.d.now) (Row (length a.beta.now)) c.in-Accepted.plan =
-      (admission _ _ (sym c.admit.ensures ∙ ap answer_of c.in-Accepted.is)) in
+    (admission _ _ (sym c.admit.ensures ∙ ap answer_of c.in-Accepted.is)) in
     admitted.within
 
 pub returns-then-k-ne0 : goal.returns-then-k-ne0
 returns-then-k-ne0 c =
     let admitted : let a = c.args in
     Admitted (given a.p a.s a.n a.m a.t a.radices.now a.weights.now a.tables.now a.d.now) (Row (length a.beta.now)) c.in-Accepted.plan =
-      (admission _ _ (sym c.admit.ensures ∙ ap answer_of c.in-Accepted.is)) in
+    (admission _ _ (sym c.admit.ensures ∙ ap answer_of c.in-Accepted.is)) in
     let test = c in record {
       value = test.writing_refusal-k.ensures ∙ sym (admitted.rest _);
       steps_after = written-refused _ _ _ _ _ _ (pos_of_ne-zero c.if-k-ne0.true);
@@ -34,7 +34,7 @@ pub put_program-requires : goal.put_program-requires
 put_program-requires c =
     let admitted : let a = c.args in
     Admitted (given a.p a.s a.n a.m a.t a.radices.now a.weights.now a.tables.now a.d.now) (Row (length a.beta.now)) c.in-Accepted.plan =
-      (admission _ _ (sym c.admit.ensures ∙ ap answer_of c.in-Accepted.is)) in
+    (admission _ _ (sym c.admit.ensures ∙ ap answer_of c.in-Accepted.is)) in
     let test = c in
     let r = test in
     let s = c.args in
@@ -58,7 +58,7 @@ pub returns-else-k-ne0 : goal.returns-else-k-ne0
 returns-else-k-ne0 c =
     let admitted : let a = c.args in
     Admitted (given a.p a.s a.n a.m a.t a.radices.now a.weights.now a.tables.now a.d.now) (Row (length a.beta.now)) c.in-Accepted.plan =
-      (admission _ _ (sym c.admit.ensures ∙ ap answer_of c.in-Accepted.is)) in
+    (admission _ _ (sym c.admit.ensures ∙ ap answer_of c.in-Accepted.is)) in
     let passed = c in
     let test = passed in
     let a = admitted in record {

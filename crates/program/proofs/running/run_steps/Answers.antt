@@ -1,6 +1,6 @@
 use mathlib.Core.Path.{ap₂, ◌∙◌}
 use mathlib.Core.List.{[], ◌∷◌}
-use Prim.Native.Nat.{ℕ, ◌-◌, ◌<◌}
+use Prim.Native.Nat.{ℕ, ◌<◌}
 use native.Mathlib.Nat.{mod-lt}
 use native.Mathlib.Omega.{arith}
 use Rattle.plan.specs.Causes.{gives}
@@ -14,9 +14,9 @@ nonzero_rem-p c = omega (arith, prime-low c.requires.within)
 
 pub inverse-quarter-requires : goal.inverse-quarter-requires
 inverse-quarter-requires c = let pre = c.requires in record {
-      modulus = modulus pre.within;
-      a_lt_p = mod-lt 4 (omega (arith, prime-low pre.within));
-    }
+  modulus = modulus pre.within;
+  a_lt_p = mod-lt 4 (omega (arith, prime-low pre.within));
+}
 
 pub reciprocal-reciprocal-requires : goal.reciprocal-reciprocal-requires
 reciprocal-reciprocal-requires c = modulus c.requires.within
@@ -70,9 +70,9 @@ pub clear-registers-requires : goal.clear-registers-requires
 clear-registers-requires c =
     let facts : let steps = c.args.steps.now in
     let i = c.loop-i.i in StepFacts c.args.plan (kind_of steps i) (to_of steps i) (from_of steps i) (by_of steps i) =
-      (step-at c.args.plan c.args.steps.now c.loop-i.i c.requires.steps_value c.loop-i-test.true) in
+    (step-at c.args.plan c.args.steps.now c.loop-i.i c.requires.steps_value c.loop-i-test.true) in
     let to_inside : to_of c.args.steps.now c.loop-i.i < 69 =
-      (omega (arith, facts.to_low, c.requires.within.variable-limit)) in
+    (omega (arith, facts.to_low, c.requires.within.variable-limit)) in
     let r = c in (r.loop-i.invariant.size, to_inside)
 
 pub loop-i-smaller-then-kind-eq0 : goal.loop-i-smaller-then-kind-eq0
@@ -82,11 +82,11 @@ pub loop-i-preserved-then-kind-eq0 : goal.loop-i-preserved-then-kind-eq0
 loop-i-preserved-then-kind-eq0 c =
     let facts : let steps = c.args.steps.now in
     let i = c.loop-i.i in StepFacts c.args.plan (kind_of steps i) (to_of steps i) (from_of steps i) (by_of steps i) =
-      (step-at c.args.plan c.args.steps.now c.loop-i.i c.requires.steps_value c.loop-i-test.true) in
+    (step-at c.args.plan c.args.steps.now c.loop-i.i c.requires.steps_value c.loop-i-test.true) in
     let to_inside : to_of c.args.steps.now c.loop-i.i < 69 =
-      (omega (arith, facts.to_low, c.requires.within.variable-limit)) in
+    (omega (arith, facts.to_low, c.requires.within.variable-limit)) in
     let positive : 0 < c.args.plan.p =
-      (omega (arith, prime-low c.requires.within)) in
+    (omega (arith, prime-low c.requires.within)) in
     let r = c in
     running-clear _ _ _ _ r.loop-i.invariant r.loop-i-test.true to_inside _ c.clear-registers.ensures positive c.if-kind-eq0.true
 
@@ -94,7 +94,7 @@ pub overflow_cast-by : goal.overflow_cast-by
 overflow_cast-by c =
     let facts : let steps = c.args.steps.now in
     let i = c.loop-i.i in StepFacts c.args.plan (kind_of steps i) (to_of steps i) (from_of steps i) (by_of steps i) =
-      (step-at c.args.plan c.args.steps.now c.loop-i.i c.requires.steps_value c.loop-i-test.true) in
+    (step-at c.args.plan c.args.steps.now c.loop-i.i c.requires.steps_value c.loop-i-test.true) in
     let r = c in
     omega (arith, facts.weight c.if-kind-eq1.true, prime-high c.requires.within)
 
@@ -102,11 +102,11 @@ pub add-registers-requires : goal.add-registers-requires
 add-registers-requires c =
     let facts : let steps = c.args.steps.now in
     let i = c.loop-i.i in StepFacts c.args.plan (kind_of steps i) (to_of steps i) (from_of steps i) (by_of steps i) =
-      (step-at c.args.plan c.args.steps.now c.loop-i.i c.requires.steps_value c.loop-i-test.true) in
+    (step-at c.args.plan c.args.steps.now c.loop-i.i c.requires.steps_value c.loop-i-test.true) in
     let to_inside : to_of c.args.steps.now c.loop-i.i < 69 =
-      (omega (arith, facts.to_low, c.requires.within.variable-limit)) in
+    (omega (arith, facts.to_low, c.requires.within.variable-limit)) in
     let from-inside : from_of c.args.steps.now c.loop-i.i < 69 =
-      (omega (arith, facts.from_low, c.requires.within.variable-limit)) in
+    (omega (arith, facts.from_low, c.requires.within.variable-limit)) in
     let r = c in
     let inv = r.loop-i.invariant in record {
       at_len = (inv.size, to_inside, from-inside);
@@ -121,11 +121,11 @@ pub loop-i-preserved-then-kind-eq1 : goal.loop-i-preserved-then-kind-eq1
 loop-i-preserved-then-kind-eq1 c =
     let facts : let steps = c.args.steps.now in
     let i = c.loop-i.i in StepFacts c.args.plan (kind_of steps i) (to_of steps i) (from_of steps i) (by_of steps i) =
-      (step-at c.args.plan c.args.steps.now c.loop-i.i c.requires.steps_value c.loop-i-test.true) in
+    (step-at c.args.plan c.args.steps.now c.loop-i.i c.requires.steps_value c.loop-i-test.true) in
     let to_inside : to_of c.args.steps.now c.loop-i.i < 69 =
-      (omega (arith, facts.to_low, c.requires.within.variable-limit)) in
+    (omega (arith, facts.to_low, c.requires.within.variable-limit)) in
     let positive : 0 < c.args.plan.p =
-      (omega (arith, prime-low c.requires.within)) in
+    (omega (arith, prime-low c.requires.within)) in
     let r = c in
     running-add _ _ _ _ r.loop-i.invariant r.loop-i-test.true to_inside _ c.add-registers.ensures positive c.if-kind-eq1.true
 
@@ -133,7 +133,7 @@ pub overflow_cast-by-else-kind-eq1 : goal.overflow_cast-by-else-kind-eq1
 overflow_cast-by-else-kind-eq1 c =
     let facts : let steps = c.args.steps.now in
     let i = c.loop-i.i in StepFacts c.args.plan (kind_of steps i) (to_of steps i) (from_of steps i) (by_of steps i) =
-      (step-at c.args.plan c.args.steps.now c.loop-i.i c.requires.steps_value c.loop-i-test.true) in
+    (step-at c.args.plan c.args.steps.now c.loop-i.i c.requires.steps_value c.loop-i-test.true) in
     let r = c in
     omega (arith, (facts.table c.if-kind-eq0.false c.if-kind-eq1.false).1, c.requires.within.variable-limit)
 
@@ -141,11 +141,11 @@ pub boot-registers-requires : goal.boot-registers-requires
 boot-registers-requires c =
     let facts : let steps = c.args.steps.now in
     let i = c.loop-i.i in StepFacts c.args.plan (kind_of steps i) (to_of steps i) (from_of steps i) (by_of steps i) =
-      (step-at c.args.plan c.args.steps.now c.loop-i.i c.requires.steps_value c.loop-i-test.true) in
+    (step-at c.args.plan c.args.steps.now c.loop-i.i c.requires.steps_value c.loop-i-test.true) in
     let to_inside : to_of c.args.steps.now c.loop-i.i < 69 =
-      (omega (arith, facts.to_low, c.requires.within.variable-limit)) in
+    (omega (arith, facts.to_low, c.requires.within.variable-limit)) in
     let from-inside : from_of c.args.steps.now c.loop-i.i < 69 =
-      (omega (arith, facts.from_low, c.requires.within.variable-limit)) in
+    (omega (arith, facts.from_low, c.requires.within.variable-limit)) in
     let r = c in
     let inv = r.loop-i.invariant in
     let pre = c.requires in
@@ -166,11 +166,11 @@ pub loop-i-preserved : goal.loop-i-preserved
 loop-i-preserved c =
     let facts : let steps = c.args.steps.now in
     let i = c.loop-i.i in StepFacts c.args.plan (kind_of steps i) (to_of steps i) (from_of steps i) (by_of steps i) =
-      (step-at c.args.plan c.args.steps.now c.loop-i.i c.requires.steps_value c.loop-i-test.true) in
+    (step-at c.args.plan c.args.steps.now c.loop-i.i c.requires.steps_value c.loop-i-test.true) in
     let to_inside : to_of c.args.steps.now c.loop-i.i < 69 =
-      (omega (arith, facts.to_low, c.requires.within.variable-limit)) in
+    (omega (arith, facts.to_low, c.requires.within.variable-limit)) in
     let positive : 0 < c.args.plan.p =
-      (omega (arith, prime-low c.requires.within)) in
+    (omega (arith, prime-low c.requires.within)) in
     let r = c in
     running-boot _ _ _ _ r.loop-i.invariant r.loop-i-test.true to_inside _ c.boot-registers.ensures
     (table-small c.args.plan c.args.tables.now _ _ positive c.requires.tables_len.1)

@@ -1,4 +1,3 @@
-use Prim.Native.Nat.{◌-◌}
 use native.Mathlib.Omega.{arith}
 use lib.ListN.{length}
 use Rattle.lists.specs.Places.{at}
@@ -38,5 +37,5 @@ pub returns : goal.returns
 returns c =
     let all : let r = c in let a = c.args in
     Wrote a.out.now a.begin (adds a.to (at a.weights.now) (length a.weights.now)) r.loop-j.next r.loop-j.out =
-      (let r = c in adds-all _ (at c.args.weights.now) r.loop-j.j _ r.loop-j.invariant.0 c.loop-j-test.false r.loop-j.invariant.1) in
+    (let r = c in adds-all _ (at c.args.weights.now) r.loop-j.j _ r.loop-j.invariant.0 c.loop-j-test.false r.loop-j.invariant.1) in
     all

@@ -15,33 +15,33 @@ use Rattle.program.proofs.writing.put_link.Goals as goal
 pub overflow_add-end : goal.overflow_add-end
 overflow_add-end c =
     let place : ℕ =
-      (c.args.plan.n + c.args.k) in
+    (c.args.plan.n + c.args.k) in
     let fits : c.args.start + place ≤ length c.args.weights.now =
-      (link-room c.args.plan c.args.weights.now _ _ c.requires.weights_len c.requires.start_value.0 c.requires.start_value.1) in
+    (link-room c.args.plan c.args.weights.now _ _ c.requires.weights_len c.requires.start_value.0 c.requires.start_value.1) in
     omega (arith, fits)
 
 pub slice_bounds-put_sum-end : goal.slice_bounds-put_sum-end
 slice_bounds-put_sum-end c =
     let place : ℕ =
-      (c.args.plan.n + c.args.k) in
+    (c.args.plan.n + c.args.k) in
     let fits : c.args.start + place ≤ length c.args.weights.now =
-      (link-room c.args.plan c.args.weights.now _ _ c.requires.weights_len c.requires.start_value.0 c.requires.start_value.1) in
+    (link-room c.args.plan c.args.weights.now _ _ c.requires.weights_len c.requires.start_value.0 c.requires.start_value.1) in
     fits
 
 pub put_sum-next-requires : goal.put_sum-next-requires
 put_sum-next-requires c =
     let place : ℕ =
-      (c.args.plan.n + c.args.k) in
+    (c.args.plan.n + c.args.k) in
     let fits : c.args.start + place ≤ length c.args.weights.now =
-      (link-room c.args.plan c.args.weights.now _ _ c.requires.weights_len c.requires.start_value.0 c.requires.start_value.1) in
+    (link-room c.args.plan c.args.weights.now _ _ c.requires.weights_len c.requires.start_value.0 c.requires.start_value.1) in
     let total : List ℕ =
-      (sum_steps place c.args.weights.now c.args.start place) in
+    (sum_steps place c.args.weights.now c.args.start place) in
     let last : List ℕ =
-      (boot place c.args.k) in
+    (boot place c.args.k) in
     let split : total ++ last ≡ link_steps c.args.plan c.args.weights.now c.args.k =
-      (link-split c.args.plan _ _ _ fits c.requires.start_value.0) in
+    (link-split c.args.plan _ _ _ fits c.requires.start_value.0) in
     let room : Room c.args.out.now c.args.begin (total ++ last) =
-      (subst (Room c.args.out.now c.args.begin) (sym split) c.requires.room) in
+    (subst (Room c.args.out.now c.args.begin) (sym split) c.requires.room) in
     let s = c in
     let e = cut-length s.args.weights.now s.args.start place fits in record {
       weights_len_bound = omega (arith, e, s.requires.within.variable-limit, s.requires.start_value.1);
@@ -51,34 +51,34 @@ put_sum-next-requires c =
 pub put_step-requires : goal.put_step-requires
 put_step-requires c =
     let place : ℕ =
-      (c.args.plan.n + c.args.k) in
+    (c.args.plan.n + c.args.k) in
     let fits : c.args.start + place ≤ length c.args.weights.now =
-      (link-room c.args.plan c.args.weights.now _ _ c.requires.weights_len c.requires.start_value.0 c.requires.start_value.1) in
+    (link-room c.args.plan c.args.weights.now _ _ c.requires.weights_len c.requires.start_value.0 c.requires.start_value.1) in
     let total : List ℕ =
-      (sum_steps place c.args.weights.now c.args.start place) in
+    (sum_steps place c.args.weights.now c.args.start place) in
     let last : List ℕ =
-      (boot place c.args.k) in
+    (boot place c.args.k) in
     let split : total ++ last ≡ link_steps c.args.plan c.args.weights.now c.args.k =
-      (link-split c.args.plan _ _ _ fits c.requires.start_value.0) in
+    (link-split c.args.plan _ _ _ fits c.requires.start_value.0) in
     let room : Room c.args.out.now c.args.begin (total ++ last) =
-      (subst (Room c.args.out.now c.args.begin) (sym split) c.requires.room) in
+    (subst (Room c.args.out.now c.args.begin) (sym split) c.requires.room) in
     let s = c in
     wrote-room total last room c.put_sum-next.ensures
 
 pub returns : goal.returns
 returns c =
     let place : ℕ =
-      (c.args.plan.n + c.args.k) in
+    (c.args.plan.n + c.args.k) in
     let fits : c.args.start + place ≤ length c.args.weights.now =
-      (link-room c.args.plan c.args.weights.now _ _ c.requires.weights_len c.requires.start_value.0 c.requires.start_value.1) in
+    (link-room c.args.plan c.args.weights.now _ _ c.requires.weights_len c.requires.start_value.0 c.requires.start_value.1) in
     let total : List ℕ =
-      (sum_steps place c.args.weights.now c.args.start place) in
+    (sum_steps place c.args.weights.now c.args.start place) in
     let last : List ℕ =
-      (boot place c.args.k) in
+    (boot place c.args.k) in
     let split : total ++ last ≡ link_steps c.args.plan c.args.weights.now c.args.k =
-      (link-split c.args.plan _ _ _ fits c.requires.start_value.0) in
+    (link-split c.args.plan _ _ _ fits c.requires.start_value.0) in
     let room : Room c.args.out.now c.args.begin (total ++ last) =
-      (subst (Room c.args.out.now c.args.begin) (sym split) c.requires.room) in
+    (subst (Room c.args.out.now c.args.begin) (sym split) c.requires.room) in
     let s = c in
     let sum = c.put_sum-next in
     wrote_as split (wrote_then total last room sum.ensures c.put_step.ensures)

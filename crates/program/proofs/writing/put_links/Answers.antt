@@ -1,6 +1,6 @@
 use mathlib.Core.Path.{sym, ap, ◌∙◌}
 use mathlib.Core.List.{List}
-use Prim.Native.Nat.{ℕ, ◌+◌, ◌-◌}
+use Prim.Native.Nat.{ℕ, ◌+◌}
 use native.Mathlib.Omega.{arith}
 use Rattle.lists.specs.Places.{joined}
 use Rattle.lists.proofs.Sums.{sum-zero, sum-next}
@@ -16,7 +16,7 @@ loop-k-init c = (omega arith, sym (sum-zero _), none-joined _ _ _)
 pub put_link-next-requires : goal.put_link-next-requires
 put_link-next-requires c =
     let each : ℕ → List ℕ =
-      (link_steps c.args.plan c.args.weights.now) in
+    (link_steps c.args.plan c.args.weights.now) in
     let r = c in
     let pre = c.requires in
     let more = c.loop-k-test.true in record {
@@ -43,7 +43,7 @@ loop-k-smaller c = omega arith
 pub loop-k-preserved : goal.loop-k-preserved
 loop-k-preserved c =
     let each : ℕ → List ℕ =
-      (link_steps c.args.plan c.args.weights.now) in
+    (link_steps c.args.plan c.args.weights.now) in
     let r = c in
     let n = c.args.plan.n in
     let more = c.loop-k-test.true in (
@@ -55,7 +55,7 @@ loop-k-preserved c =
 pub returns : goal.returns
 returns c =
     let each : ℕ → List ℕ =
-      (link_steps c.args.plan c.args.weights.now) in
+    (link_steps c.args.plan c.args.weights.now) in
     let all : let r = c in Wrote c.args.out.now 0 (joined each c.args.plan.m) r.loop-k.next r.loop-k.out =
-      (let r = c in joined-all each r.loop-k.k c.args.plan.m r.loop-k.invariant.0 c.loop-k-test.false r.loop-k.invariant.2) in
+    (let r = c in joined-all each r.loop-k.k c.args.plan.m r.loop-k.invariant.0 c.loop-k-test.false r.loop-k.invariant.2) in
     all

@@ -1,5 +1,5 @@
 use mathlib.Core.List.{List}
-use Prim.Native.Nat.{ℕ, ◌-◌}
+use Prim.Native.Nat.{ℕ}
 use native.Mathlib.Omega.{arith}
 use Rattle.lists.specs.Places.{joined}
 use Rattle.program.specs.Layout.{product_steps}
@@ -13,7 +13,7 @@ loop-i-init c = (omega arith, none-joined _ _ _)
 pub put_product-next-requires : goal.put_product-next-requires
 put_product-next-requires c =
     let each : ℕ → List ℕ =
-      (product_steps c.args.plan c.args.d.now c.args.beta.now) in
+    (product_steps c.args.plan c.args.d.now c.args.beta.now) in
     let r = c in
     let pre = c.requires in
     let more = c.loop-i-test.true in record {
@@ -32,7 +32,7 @@ loop-i-smaller c = omega arith
 pub loop-i-preserved : goal.loop-i-preserved
 loop-i-preserved c =
     let each : ℕ → List ℕ =
-      (product_steps c.args.plan c.args.d.now c.args.beta.now) in
+    (product_steps c.args.plan c.args.d.now c.args.beta.now) in
     let r = c in
     let more = c.loop-i-test.true in
     (omega arith, wrote-next each r.loop-i.i c.args.plan.t more c.requires.room r.loop-i.invariant.1 c.put_product-next.ensures)
@@ -40,7 +40,7 @@ loop-i-preserved c =
 pub returns : goal.returns
 returns c =
     let each : ℕ → List ℕ =
-      (product_steps c.args.plan c.args.d.now c.args.beta.now) in
+    (product_steps c.args.plan c.args.d.now c.args.beta.now) in
     let all : let r = c in Wrote c.args.out.now c.args.begin (joined each c.args.plan.t) r.loop-i.next r.loop-i.out =
-      (let r = c in joined-all each r.loop-i.i c.args.plan.t r.loop-i.invariant.0 c.loop-i-test.false r.loop-i.invariant.1) in
+    (let r = c in joined-all each r.loop-i.i c.args.plan.t r.loop-i.invariant.0 c.loop-i-test.false r.loop-i.invariant.1) in
     all

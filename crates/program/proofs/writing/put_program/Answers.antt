@@ -18,49 +18,49 @@ pub overflow_mul-start : goal.overflow_mul-start
 overflow_mul-start c =
     let l : ℕ = c.variables-l.result in
     let begin : ℕ =
-      (c.args.plan.t * l) in
+    (c.args.plan.t * l) in
     let begins : begin ≡ c.args.plan.t * variables c.args.plan =
-      (ap (λ (l : ℕ). c.args.plan.t * l) c.variables-l.ensures) in
+    (ap (λ (l : ℕ). c.args.plan.t * l) c.variables-l.ensures) in
     let ends : begin + l ≡ columns c.args.plan =
-      (last-room c.args.plan _ _ begins c.variables-l.ensures) in
+    (last-room c.args.plan _ _ begins c.variables-l.ensures) in
     omega (arith, ends, c.requires.within.column-limit)
 
 pub overflow_add-end : goal.overflow_add-end
 overflow_add-end c =
     let l : ℕ = c.variables-l.result in
     let begin : ℕ =
-      (c.args.plan.t * l) in
+    (c.args.plan.t * l) in
     let begins : begin ≡ c.args.plan.t * variables c.args.plan =
-      (ap (λ (l : ℕ). c.args.plan.t * l) c.variables-l.ensures) in
+    (ap (λ (l : ℕ). c.args.plan.t * l) c.variables-l.ensures) in
     let ends : begin + l ≡ columns c.args.plan =
-      (last-room c.args.plan _ _ begins c.variables-l.ensures) in
+    (last-room c.args.plan _ _ begins c.variables-l.ensures) in
     omega (arith, ends, c.requires.within.column-limit)
 
 pub put_links-next-requires : goal.put_links-next-requires
 put_links-next-requires c =
     let l : ℕ = c.variables-l.result in
     let begin : ℕ =
-      (c.args.plan.t * l) in
+    (c.args.plan.t * l) in
     let begins : begin ≡ c.args.plan.t * variables c.args.plan =
-      (ap (λ (l : ℕ). c.args.plan.t * l) c.variables-l.ensures) in
+    (ap (λ (l : ℕ). c.args.plan.t * l) c.variables-l.ensures) in
     let ends : begin + l ≡ columns c.args.plan =
-      (last-room c.args.plan _ _ begins c.variables-l.ensures) in
+    (last-room c.args.plan _ _ begins c.variables-l.ensures) in
     let fits : begin + l ≤ length c.args.beta.now =
-      (le_of_eq (ends ∙ sym c.requires.d_len.1)) in
+    (le_of_eq (ends ∙ sym c.requires.d_len.1)) in
     let row : List ℕ =
-      (take (begin + l - begin) (drop begin c.args.beta.now)) in
+    (take (begin + l - begin) (drop begin c.args.beta.now)) in
     let links : List ℕ =
-      (joined (link_steps c.args.plan c.args.weights.now) c.args.plan.m) in
+    (joined (link_steps c.args.plan c.args.weights.now) c.args.plan.m) in
     let cleared : List ℕ =
-      (clear (l + 4)) in
+    (clear (l + 4)) in
     let products : List ℕ =
-      (joined (product_steps c.args.plan c.args.d.now c.args.beta.now) c.args.plan.t) in
+    (joined (product_steps c.args.plan c.args.d.now c.args.beta.now) c.args.plan.t) in
     let last : List ℕ =
-      (adds (l + 4) (at row) (length row)) in
+    (adds (l + 4) (at row) (length row)) in
     let split : links ++ (cleared ++ (products ++ last)) ≡ layout c.args.plan c.args.weights.now c.args.d.now c.args.beta.now =
-      (layout-split c.args.plan _ _ _ _ _ fits begins c.variables-l.ensures) in
+    (layout-split c.args.plan _ _ _ _ _ fits begins c.variables-l.ensures) in
     let room : Room c.args.out.now 0 (links ++ (cleared ++ (products ++ last))) =
-      (subst (Room c.args.out.now 0) (sym split) c.requires.room) in
+    (subst (Room c.args.out.now 0) (sym split) c.requires.room) in
     let r = c in record {
       within = c.requires.within;
       weights_len = c.requires.weights_len;
@@ -71,29 +71,29 @@ pub put_step-next-requires : goal.put_step-next-requires
 put_step-next-requires c =
     let l : ℕ = c.variables-l.result in
     let begin : ℕ =
-      (c.args.plan.t * l) in
+    (c.args.plan.t * l) in
     let begins : begin ≡ c.args.plan.t * variables c.args.plan =
-      (ap (λ (l : ℕ). c.args.plan.t * l) c.variables-l.ensures) in
+    (ap (λ (l : ℕ). c.args.plan.t * l) c.variables-l.ensures) in
     let ends : begin + l ≡ columns c.args.plan =
-      (last-room c.args.plan _ _ begins c.variables-l.ensures) in
+    (last-room c.args.plan _ _ begins c.variables-l.ensures) in
     let fits : begin + l ≤ length c.args.beta.now =
-      (le_of_eq (ends ∙ sym c.requires.d_len.1)) in
+    (le_of_eq (ends ∙ sym c.requires.d_len.1)) in
     let row : List ℕ =
-      (take (begin + l - begin) (drop begin c.args.beta.now)) in
+    (take (begin + l - begin) (drop begin c.args.beta.now)) in
     let links : List ℕ =
-      (joined (link_steps c.args.plan c.args.weights.now) c.args.plan.m) in
+    (joined (link_steps c.args.plan c.args.weights.now) c.args.plan.m) in
     let cleared : List ℕ =
-      (clear (l + 4)) in
+    (clear (l + 4)) in
     let products : List ℕ =
-      (joined (product_steps c.args.plan c.args.d.now c.args.beta.now) c.args.plan.t) in
+    (joined (product_steps c.args.plan c.args.d.now c.args.beta.now) c.args.plan.t) in
     let last : List ℕ =
-      (adds (l + 4) (at row) (length row)) in
+    (adds (l + 4) (at row) (length row)) in
     let split : links ++ (cleared ++ (products ++ last)) ≡ layout c.args.plan c.args.weights.now c.args.d.now c.args.beta.now =
-      (layout-split c.args.plan _ _ _ _ _ fits begins c.variables-l.ensures) in
+    (layout-split c.args.plan _ _ _ _ _ fits begins c.variables-l.ensures) in
     let room : Room c.args.out.now 0 (links ++ (cleared ++ (products ++ last))) =
-      (subst (Room c.args.out.now 0) (sym split) c.requires.room) in
+    (subst (Room c.args.out.now 0) (sym split) c.requires.room) in
     let behind-links : let r = c in Room c.put_links-next.new.out c.put_links-next.result (cleared ++ (products ++ last)) =
-      (let r = c in wrote-room links (cleared ++ (products ++ last)) room c.put_links-next.ensures) in
+    (let r = c in wrote-room links (cleared ++ (products ++ last)) room c.put_links-next.ensures) in
     let put = c in
     let r = put in
     room-front put.put_links-next.new.out put.put_links-next.result cleared (products ++ last) behind-links
@@ -102,31 +102,31 @@ pub put_products-next-requires : goal.put_products-next-requires
 put_products-next-requires c =
     let l : ℕ = c.variables-l.result in
     let begin : ℕ =
-      (c.args.plan.t * l) in
+    (c.args.plan.t * l) in
     let begins : begin ≡ c.args.plan.t * variables c.args.plan =
-      (ap (λ (l : ℕ). c.args.plan.t * l) c.variables-l.ensures) in
+    (ap (λ (l : ℕ). c.args.plan.t * l) c.variables-l.ensures) in
     let ends : begin + l ≡ columns c.args.plan =
-      (last-room c.args.plan _ _ begins c.variables-l.ensures) in
+    (last-room c.args.plan _ _ begins c.variables-l.ensures) in
     let fits : begin + l ≤ length c.args.beta.now =
-      (le_of_eq (ends ∙ sym c.requires.d_len.1)) in
+    (le_of_eq (ends ∙ sym c.requires.d_len.1)) in
     let row : List ℕ =
-      (take (begin + l - begin) (drop begin c.args.beta.now)) in
+    (take (begin + l - begin) (drop begin c.args.beta.now)) in
     let links : List ℕ =
-      (joined (link_steps c.args.plan c.args.weights.now) c.args.plan.m) in
+    (joined (link_steps c.args.plan c.args.weights.now) c.args.plan.m) in
     let cleared : List ℕ =
-      (clear (l + 4)) in
+    (clear (l + 4)) in
     let products : List ℕ =
-      (joined (product_steps c.args.plan c.args.d.now c.args.beta.now) c.args.plan.t) in
+    (joined (product_steps c.args.plan c.args.d.now c.args.beta.now) c.args.plan.t) in
     let last : List ℕ =
-      (adds (l + 4) (at row) (length row)) in
+    (adds (l + 4) (at row) (length row)) in
     let split : links ++ (cleared ++ (products ++ last)) ≡ layout c.args.plan c.args.weights.now c.args.d.now c.args.beta.now =
-      (layout-split c.args.plan _ _ _ _ _ fits begins c.variables-l.ensures) in
+    (layout-split c.args.plan _ _ _ _ _ fits begins c.variables-l.ensures) in
     let room : Room c.args.out.now 0 (links ++ (cleared ++ (products ++ last))) =
-      (subst (Room c.args.out.now 0) (sym split) c.requires.room) in
+    (subst (Room c.args.out.now 0) (sym split) c.requires.room) in
     let behind-links : let r = c in Room c.put_links-next.new.out c.put_links-next.result (cleared ++ (products ++ last)) =
-      (let r = c in wrote-room links (cleared ++ (products ++ last)) room c.put_links-next.ensures) in
+    (let r = c in wrote-room links (cleared ++ (products ++ last)) room c.put_links-next.ensures) in
     let behind-step : let r = c in Room c.put_step-next.new.out c.put_step-next.result (products ++ last) =
-      (let put = c in
+    (let put = c in
     let r = put in
     wrote-room cleared (products ++ last) behind-links c.put_step-next.ensures) in
     let step = c in
@@ -140,44 +140,44 @@ pub slice_bounds-put_adds-end : goal.slice_bounds-put_adds-end
 slice_bounds-put_adds-end c =
     let l : ℕ = c.variables-l.result in
     let begin : ℕ =
-      (c.args.plan.t * l) in
+    (c.args.plan.t * l) in
     let begins : begin ≡ c.args.plan.t * variables c.args.plan =
-      (ap (λ (l : ℕ). c.args.plan.t * l) c.variables-l.ensures) in
+    (ap (λ (l : ℕ). c.args.plan.t * l) c.variables-l.ensures) in
     let ends : begin + l ≡ columns c.args.plan =
-      (last-room c.args.plan _ _ begins c.variables-l.ensures) in
+    (last-room c.args.plan _ _ begins c.variables-l.ensures) in
     let fits : begin + l ≤ length c.args.beta.now =
-      (le_of_eq (ends ∙ sym c.requires.d_len.1)) in
+    (le_of_eq (ends ∙ sym c.requires.d_len.1)) in
     fits
 
 pub put_adds-requires : goal.put_adds-requires
 put_adds-requires c =
     let l : ℕ = c.variables-l.result in
     let begin : ℕ =
-      (c.args.plan.t * l) in
+    (c.args.plan.t * l) in
     let begins : begin ≡ c.args.plan.t * variables c.args.plan =
-      (ap (λ (l : ℕ). c.args.plan.t * l) c.variables-l.ensures) in
+    (ap (λ (l : ℕ). c.args.plan.t * l) c.variables-l.ensures) in
     let ends : begin + l ≡ columns c.args.plan =
-      (last-room c.args.plan _ _ begins c.variables-l.ensures) in
+    (last-room c.args.plan _ _ begins c.variables-l.ensures) in
     let fits : begin + l ≤ length c.args.beta.now =
-      (le_of_eq (ends ∙ sym c.requires.d_len.1)) in
+    (le_of_eq (ends ∙ sym c.requires.d_len.1)) in
     let row : List ℕ =
-      (take (begin + l - begin) (drop begin c.args.beta.now)) in
+    (take (begin + l - begin) (drop begin c.args.beta.now)) in
     let links : List ℕ =
-      (joined (link_steps c.args.plan c.args.weights.now) c.args.plan.m) in
+    (joined (link_steps c.args.plan c.args.weights.now) c.args.plan.m) in
     let cleared : List ℕ =
-      (clear (l + 4)) in
+    (clear (l + 4)) in
     let products : List ℕ =
-      (joined (product_steps c.args.plan c.args.d.now c.args.beta.now) c.args.plan.t) in
+    (joined (product_steps c.args.plan c.args.d.now c.args.beta.now) c.args.plan.t) in
     let last : List ℕ =
-      (adds (l + 4) (at row) (length row)) in
+    (adds (l + 4) (at row) (length row)) in
     let split : links ++ (cleared ++ (products ++ last)) ≡ layout c.args.plan c.args.weights.now c.args.d.now c.args.beta.now =
-      (layout-split c.args.plan _ _ _ _ _ fits begins c.variables-l.ensures) in
+    (layout-split c.args.plan _ _ _ _ _ fits begins c.variables-l.ensures) in
     let room : Room c.args.out.now 0 (links ++ (cleared ++ (products ++ last))) =
-      (subst (Room c.args.out.now 0) (sym split) c.requires.room) in
+    (subst (Room c.args.out.now 0) (sym split) c.requires.room) in
     let behind-links : let r = c in Room c.put_links-next.new.out c.put_links-next.result (cleared ++ (products ++ last)) =
-      (let r = c in wrote-room links (cleared ++ (products ++ last)) room c.put_links-next.ensures) in
+    (let r = c in wrote-room links (cleared ++ (products ++ last)) room c.put_links-next.ensures) in
     let behind-step : let r = c in Room c.put_step-next.new.out c.put_step-next.result (products ++ last) =
-      (let put = c in
+    (let put = c in
     let r = put in
     wrote-room cleared (products ++ last) behind-links c.put_step-next.ensures) in
     let step = c in
@@ -191,27 +191,27 @@ pub returns : goal.returns
 returns c =
     let l : ℕ = c.variables-l.result in
     let begin : ℕ =
-      (c.args.plan.t * l) in
+    (c.args.plan.t * l) in
     let begins : begin ≡ c.args.plan.t * variables c.args.plan =
-      (ap (λ (l : ℕ). c.args.plan.t * l) c.variables-l.ensures) in
+    (ap (λ (l : ℕ). c.args.plan.t * l) c.variables-l.ensures) in
     let ends : begin + l ≡ columns c.args.plan =
-      (last-room c.args.plan _ _ begins c.variables-l.ensures) in
+    (last-room c.args.plan _ _ begins c.variables-l.ensures) in
     let fits : begin + l ≤ length c.args.beta.now =
-      (le_of_eq (ends ∙ sym c.requires.d_len.1)) in
+    (le_of_eq (ends ∙ sym c.requires.d_len.1)) in
     let row : List ℕ =
-      (take (begin + l - begin) (drop begin c.args.beta.now)) in
+    (take (begin + l - begin) (drop begin c.args.beta.now)) in
     let links : List ℕ =
-      (joined (link_steps c.args.plan c.args.weights.now) c.args.plan.m) in
+    (joined (link_steps c.args.plan c.args.weights.now) c.args.plan.m) in
     let cleared : List ℕ =
-      (clear (l + 4)) in
+    (clear (l + 4)) in
     let products : List ℕ =
-      (joined (product_steps c.args.plan c.args.d.now c.args.beta.now) c.args.plan.t) in
+    (joined (product_steps c.args.plan c.args.d.now c.args.beta.now) c.args.plan.t) in
     let last : List ℕ =
-      (adds (l + 4) (at row) (length row)) in
+    (adds (l + 4) (at row) (length row)) in
     let split : links ++ (cleared ++ (products ++ last)) ≡ layout c.args.plan c.args.weights.now c.args.d.now c.args.beta.now =
-      (layout-split c.args.plan _ _ _ _ _ fits begins c.variables-l.ensures) in
+    (layout-split c.args.plan _ _ _ _ _ fits begins c.variables-l.ensures) in
     let room : Room c.args.out.now 0 (links ++ (cleared ++ (products ++ last))) =
-      (subst (Room c.args.out.now 0) (sym split) c.requires.room) in
+    (subst (Room c.args.out.now 0) (sym split) c.requires.room) in
     let products-put = c in
     let step = products-put in
     let links-put = step in

@@ -21,22 +21,22 @@ use Rattle.store.proofs.calls.coefficients.Goals as goal
 pub columns-c-requires : goal.columns-c-requires
 columns-c-requires c =
     let lent : Given =
-      (let a = c.args in
+    (let a = c.args in
     given a.p a.s a.n a.m a.t a.radices.now a.weights.now a.tables.now a.d.now) in
     let admitted : Admitted lent (StoreAndRow (length c.args.store.now) (length c.args.beta.now)) c.in-Accepted.plan =
-      (admission _ _ (sym c.admit.ensures ∙ ap answer_of c.in-Accepted.is)) in
+    (admission _ _ (sym c.admit.ensures ∙ ap answer_of c.in-Accepted.is)) in
     admitted.within
 
 pub is_reduced-requires : goal.is_reduced-requires
 is_reduced-requires c =
     let lent : Given =
-      (let a = c.args in
+    (let a = c.args in
     given a.p a.s a.n a.m a.t a.radices.now a.weights.now a.tables.now a.d.now) in
     let admitted : Admitted lent (StoreAndRow (length c.args.store.now) (length c.args.beta.now)) c.in-Accepted.plan =
-      (admission _ _ (sym c.admit.ensures ∙ ap answer_of c.in-Accepted.is)) in
+    (admission _ _ (sym c.admit.ensures ∙ ap answer_of c.in-Accepted.is)) in
     let fit : let Q = c.in-Accepted.plan in
     (length c.args.store.now ≡ store_size (columns Q)) × (length c.args.beta.now ≡ columns Q) =
-      (let Q = c.in-Accepted.plan in
+    (let Q = c.in-Accepted.plan in
     let a = c.args in
     let b = both_true (eqb (length a.store.now) (store_size (columns Q))) (eqb (length a.beta.now) (columns Q)) admitted.own-fits in
     (eqb-true _ _ b.0, eqb-true _ _ b.1)) in
@@ -50,13 +50,13 @@ is_reduced-requires c =
 pub returns-then-not-is_reduced : goal.returns-then-not-is_reduced
 returns-then-not-is_reduced c =
     let lent : Given =
-      (let a = c.args in
+    (let a = c.args in
     given a.p a.s a.n a.m a.t a.radices.now a.weights.now a.tables.now a.d.now) in
     let admitted : Admitted lent (StoreAndRow (length c.args.store.now) (length c.args.beta.now)) c.in-Accepted.plan =
-      (admission _ _ (sym c.admit.ensures ∙ ap answer_of c.in-Accepted.is)) in
+    (admission _ _ (sym c.admit.ensures ∙ ap answer_of c.in-Accepted.is)) in
     let sound : let Q = c.in-Accepted.plan in
     c.is_reduced.result ≡ is_reduced Q.p (columns Q) (cells (columns Q) c.args.store.now) =
-      (let Q = c.in-Accepted.plan in
+    (let Q = c.in-Accepted.plan in
     c.is_reduced.ensures ∙ ap (λ (n : ℕ). is_reduced Q.p n (cells n c.args.store.now)) c.columns-c.ensures) in
     let a = admitted in record {
       r_value = sym (a.rest _ ∙ rw (sym sound ∙ not-true c.is_reduced.result (ap not c.if-not-is_reduced.true)));
@@ -66,13 +66,13 @@ returns-then-not-is_reduced c =
 pub read_off-requires : goal.read_off-requires
 read_off-requires c =
     let lent : Given =
-      (let a = c.args in
+    (let a = c.args in
     given a.p a.s a.n a.m a.t a.radices.now a.weights.now a.tables.now a.d.now) in
     let admitted : Admitted lent (StoreAndRow (length c.args.store.now) (length c.args.beta.now)) c.in-Accepted.plan =
-      (admission _ _ (sym c.admit.ensures ∙ ap answer_of c.in-Accepted.is)) in
+    (admission _ _ (sym c.admit.ensures ∙ ap answer_of c.in-Accepted.is)) in
     let fit : let Q = c.in-Accepted.plan in
     (length c.args.store.now ≡ store_size (columns Q)) × (length c.args.beta.now ≡ columns Q) =
-      (let Q = c.in-Accepted.plan in
+    (let Q = c.in-Accepted.plan in
     let a = c.args in
     let b = both_true (eqb (length a.store.now) (store_size (columns Q))) (eqb (length a.beta.now) (columns Q)) admitted.own-fits in
     (eqb-true _ _ b.0, eqb-true _ _ b.1)) in
@@ -93,13 +93,13 @@ returns-in-Refused c =
 pub returns-else-not-is_reduced : goal.returns-else-not-is_reduced
 returns-else-not-is_reduced c =
     let lent : Given =
-      (let a = c.args in
+    (let a = c.args in
     given a.p a.s a.n a.m a.t a.radices.now a.weights.now a.tables.now a.d.now) in
     let admitted : Admitted lent (StoreAndRow (length c.args.store.now) (length c.args.beta.now)) c.in-Accepted.plan =
-      (admission _ _ (sym c.admit.ensures ∙ ap answer_of c.in-Accepted.is)) in
+    (admission _ _ (sym c.admit.ensures ∙ ap answer_of c.in-Accepted.is)) in
     let sound : let Q = c.in-Accepted.plan in
     c.is_reduced.result ≡ is_reduced Q.p (columns Q) (cells (columns Q) c.args.store.now) =
-      (let Q = c.in-Accepted.plan in
+    (let Q = c.in-Accepted.plan in
     c.is_reduced.ensures ∙ ap (λ (n : ℕ). is_reduced Q.p n (cells n c.args.store.now)) c.columns-c.ensures) in
     let tested = c in
     let r = tested in

@@ -24,19 +24,19 @@ clauses all = record { r_value = all.0; store_after = all.1 }
 pub columns-requires : goal.columns-requires
 columns-requires c =
     let lent : Given =
-      (let a = c.args in
+    (let a = c.args in
     given a.p a.s a.n a.m a.t a.radices.now a.weights.now a.tables.now a.d.now) in
     let admitted : Admitted lent (Store (length c.args.store.now)) c.in-Accepted.plan =
-      (admission _ _ (sym c.admit.ensures ∙ ap answer_of c.in-Accepted.is)) in
+    (admission _ _ (sym c.admit.ensures ∙ ap answer_of c.in-Accepted.is)) in
     admitted.within
 
 pub is_reduced-requires : goal.is_reduced-requires
 is_reduced-requires c =
     let lent : Given =
-      (let a = c.args in
+    (let a = c.args in
     given a.p a.s a.n a.m a.t a.radices.now a.weights.now a.tables.now a.d.now) in
     let admitted : Admitted lent (Store (length c.args.store.now)) c.in-Accepted.plan =
-      (admission _ _ (sym c.admit.ensures ∙ ap answer_of c.in-Accepted.is)) in
+    (admission _ _ (sym c.admit.ensures ∙ ap answer_of c.in-Accepted.is)) in
     let a = admitted in
     let e = c.columns.ensures in record {
       c_bound = columns-small _ a.within e;
@@ -47,13 +47,13 @@ is_reduced-requires c =
 pub returns-then-not-is_reduced : goal.returns-then-not-is_reduced
 returns-then-not-is_reduced c =
     let lent : Given =
-      (let a = c.args in
+    (let a = c.args in
     given a.p a.s a.n a.m a.t a.radices.now a.weights.now a.tables.now a.d.now) in
     let admitted : Admitted lent (Store (length c.args.store.now)) c.in-Accepted.plan =
-      (admission _ _ (sym c.admit.ensures ∙ ap answer_of c.in-Accepted.is)) in
+    (admission _ _ (sym c.admit.ensures ∙ ap answer_of c.in-Accepted.is)) in
     let sound : let Q = c.in-Accepted.plan in
     c.is_reduced.result ≡ is_reduced Q.p (columns Q) (cells (columns Q) c.args.store.now) =
-      (let Q = c.in-Accepted.plan in
+    (let Q = c.in-Accepted.plan in
     c.is_reduced.ensures ∙ ap (λ (n : ℕ). is_reduced Q.p n (cells n c.args.store.now)) c.columns.ensures) in
     let a = admitted in
     let damaged = sym sound ∙ not-true c.is_reduced.result (ap not c.if-not-is_reduced.true) in
@@ -62,27 +62,27 @@ returns-then-not-is_reduced c =
 pub entries-requires : goal.entries-requires
 entries-requires c =
     let lent : Given =
-      (let a = c.args in
+    (let a = c.args in
     given a.p a.s a.n a.m a.t a.radices.now a.weights.now a.tables.now a.d.now) in
     let admitted : Admitted lent (Store (length c.args.store.now)) c.in-Accepted.plan =
-      (admission _ _ (sym c.admit.ensures ∙ ap answer_of c.in-Accepted.is)) in
+    (admission _ _ (sym c.admit.ensures ∙ ap answer_of c.in-Accepted.is)) in
     let r = c in
     admitted.lent.radices
 
 pub returns-then-entries-entry : goal.returns-then-entries-entry
 returns-then-entries-entry c =
     let lent : Given =
-      (let a = c.args in
+    (let a = c.args in
     given a.p a.s a.n a.m a.t a.radices.now a.weights.now a.tables.now a.d.now) in
     let admitted : Admitted lent (Store (length c.args.store.now)) c.in-Accepted.plan =
-      (admission _ _ (sym c.admit.ensures ∙ ap answer_of c.in-Accepted.is)) in
+    (admission _ _ (sym c.admit.ensures ∙ ap answer_of c.in-Accepted.is)) in
     let sound : let Q = c.in-Accepted.plan in
     c.is_reduced.result ≡ is_reduced Q.p (columns Q) (cells (columns Q) c.args.store.now) =
-      (let Q = c.in-Accepted.plan in
+    (let Q = c.in-Accepted.plan in
     c.is_reduced.ensures ∙ ap (λ (n : ℕ). is_reduced Q.p n (cells n c.args.store.now)) c.columns.ensures) in
     let passing : let Q = c.in-Accepted.plan in
     is_reduced Q.p (columns Q) (cells (columns Q) c.args.store.now) ≡ true =
-      (sym sound ∙ not-false c.is_reduced.result (ap not c.if-not-is_reduced.false)) in
+    (sym sound ∙ not-false c.is_reduced.result (ap not c.if-not-is_reduced.false)) in
     let a = admitted in
     let far = rw c.entries.ensures at c.if-entries-entry.true in
     clauses (refused-call _ 7 _ _ _ (sym (a.rest _ ∙ rw (passing, le-ltb _ _ far))) (omega arith))
@@ -90,20 +90,20 @@ returns-then-entries-entry c =
 pub returns-then-plan-value : goal.returns-then-plan-value
 returns-then-plan-value c =
     let lent : Given =
-      (let a = c.args in
+    (let a = c.args in
     given a.p a.s a.n a.m a.t a.radices.now a.weights.now a.tables.now a.d.now) in
     let admitted : Admitted lent (Store (length c.args.store.now)) c.in-Accepted.plan =
-      (admission _ _ (sym c.admit.ensures ∙ ap answer_of c.in-Accepted.is)) in
+    (admission _ _ (sym c.admit.ensures ∙ ap answer_of c.in-Accepted.is)) in
     let sound : let Q = c.in-Accepted.plan in
     c.is_reduced.result ≡ is_reduced Q.p (columns Q) (cells (columns Q) c.args.store.now) =
-      (let Q = c.in-Accepted.plan in
+    (let Q = c.in-Accepted.plan in
     c.is_reduced.ensures ∙ ap (λ (n : ℕ). is_reduced Q.p n (cells n c.args.store.now)) c.columns.ensures) in
     let passing : let Q = c.in-Accepted.plan in
     is_reduced Q.p (columns Q) (cells (columns Q) c.args.store.now) ≡ true =
-      (sym sound ∙ not-false c.is_reduced.result (ap not c.if-not-is_reduced.false)) in
+    (sym sound ∙ not-false c.is_reduced.result (ap not c.if-not-is_reduced.false)) in
     let near : let a = c.args in
     a.entry < product a.radices.now =
-      (rw c.entries.ensures at c.if-entries-entry.false) in
+    (rw c.entries.ensures at c.if-entries-entry.false) in
     let ranged = c in
     let a = admitted in
     clauses (refused-call _ 8 _ _ _ (sym (a.rest _ ∙ rw (passing, lt-ltb _ _ near, le-ltb _ _ c.if-plan-value.true))) (omega arith))
@@ -111,17 +111,17 @@ returns-then-plan-value c =
 pub file_entry-requires : goal.file_entry-requires
 file_entry-requires c =
     let lent : Given =
-      (let a = c.args in
+    (let a = c.args in
     given a.p a.s a.n a.m a.t a.radices.now a.weights.now a.tables.now a.d.now) in
     let admitted : Admitted lent (Store (length c.args.store.now)) c.in-Accepted.plan =
-      (admission _ _ (sym c.admit.ensures ∙ ap answer_of c.in-Accepted.is)) in
+    (admission _ _ (sym c.admit.ensures ∙ ap answer_of c.in-Accepted.is)) in
     let sound : let Q = c.in-Accepted.plan in
     c.is_reduced.result ≡ is_reduced Q.p (columns Q) (cells (columns Q) c.args.store.now) =
-      (let Q = c.in-Accepted.plan in
+    (let Q = c.in-Accepted.plan in
     c.is_reduced.ensures ∙ ap (λ (n : ℕ). is_reduced Q.p n (cells n c.args.store.now)) c.columns.ensures) in
     let passing : let Q = c.in-Accepted.plan in
     is_reduced Q.p (columns Q) (cells (columns Q) c.args.store.now) ≡ true =
-      (sym sound ∙ not-false c.is_reduced.result (ap not c.if-not-is_reduced.false)) in
+    (sym sound ∙ not-false c.is_reduced.result (ap not c.if-not-is_reduced.false)) in
     let tested = c in
     let a = admitted in record {
       within = a.within;
@@ -138,20 +138,20 @@ returns-in-Refused c =
 pub returns-else-plan-value : goal.returns-else-plan-value
 returns-else-plan-value c =
     let lent : Given =
-      (let a = c.args in
+    (let a = c.args in
     given a.p a.s a.n a.m a.t a.radices.now a.weights.now a.tables.now a.d.now) in
     let admitted : Admitted lent (Store (length c.args.store.now)) c.in-Accepted.plan =
-      (admission _ _ (sym c.admit.ensures ∙ ap answer_of c.in-Accepted.is)) in
+    (admission _ _ (sym c.admit.ensures ∙ ap answer_of c.in-Accepted.is)) in
     let sound : let Q = c.in-Accepted.plan in
     c.is_reduced.result ≡ is_reduced Q.p (columns Q) (cells (columns Q) c.args.store.now) =
-      (let Q = c.in-Accepted.plan in
+    (let Q = c.in-Accepted.plan in
     c.is_reduced.ensures ∙ ap (λ (n : ℕ). is_reduced Q.p n (cells n c.args.store.now)) c.columns.ensures) in
     let passing : let Q = c.in-Accepted.plan in
     is_reduced Q.p (columns Q) (cells (columns Q) c.args.store.now) ≡ true =
-      (sym sound ∙ not-false c.is_reduced.result (ap not c.if-not-is_reduced.false)) in
+    (sym sound ∙ not-false c.is_reduced.result (ap not c.if-not-is_reduced.false)) in
     let near : let a = c.args in
     a.entry < product a.radices.now =
-      (rw c.entries.ensures at c.if-entries-entry.false) in
+    (rw c.entries.ensures at c.if-entries-entry.false) in
     let ranged = c in
     let r = ranged in
     let a = admitted in

@@ -22,19 +22,19 @@ use Rattle.store.proofs.calls.settle.Goals as goal
 pub columns-requires : goal.columns-requires
 columns-requires c =
     let lent : Given =
-      (let a = c.args in
+    (let a = c.args in
     given a.p a.s a.n a.m a.t a.radices.now a.weights.now a.tables.now a.d.now) in
     let admitted : Admitted lent (Store (length c.args.store.now)) c.in-Accepted.plan =
-      (admission _ _ (sym c.admit.ensures ∙ ap answer_of c.in-Accepted.is)) in
+    (admission _ _ (sym c.admit.ensures ∙ ap answer_of c.in-Accepted.is)) in
     admitted.within
 
 pub is_reduced-requires : goal.is_reduced-requires
 is_reduced-requires c =
     let lent : Given =
-      (let a = c.args in
+    (let a = c.args in
     given a.p a.s a.n a.m a.t a.radices.now a.weights.now a.tables.now a.d.now) in
     let admitted : Admitted lent (Store (length c.args.store.now)) c.in-Accepted.plan =
-      (admission _ _ (sym c.admit.ensures ∙ ap answer_of c.in-Accepted.is)) in
+    (admission _ _ (sym c.admit.ensures ∙ ap answer_of c.in-Accepted.is)) in
     let a = admitted in
     let e = c.columns.ensures in record {
       c_bound = columns-small _ a.within e;
@@ -45,13 +45,13 @@ is_reduced-requires c =
 pub returns-then-not-is_reduced : goal.returns-then-not-is_reduced
 returns-then-not-is_reduced c =
     let lent : Given =
-      (let a = c.args in
+    (let a = c.args in
     given a.p a.s a.n a.m a.t a.radices.now a.weights.now a.tables.now a.d.now) in
     let admitted : Admitted lent (Store (length c.args.store.now)) c.in-Accepted.plan =
-      (admission _ _ (sym c.admit.ensures ∙ ap answer_of c.in-Accepted.is)) in
+    (admission _ _ (sym c.admit.ensures ∙ ap answer_of c.in-Accepted.is)) in
     let sound : let Q = c.in-Accepted.plan in
     c.is_reduced.result ≡ is_reduced Q.p (columns Q) (cells (columns Q) c.args.store.now) =
-      (let Q = c.in-Accepted.plan in
+    (let Q = c.in-Accepted.plan in
     c.is_reduced.ensures ∙ ap (λ (n : ℕ). is_reduced Q.p n (cells n c.args.store.now)) c.columns.ensures) in
     let a = admitted in
     let damaged = sym sound ∙ not-true c.is_reduced.result (ap not c.if-not-is_reduced.true) in
@@ -60,26 +60,26 @@ returns-then-not-is_reduced c =
 pub entries-requires : goal.entries-requires
 entries-requires c =
     let lent : Given =
-      (let a = c.args in
+    (let a = c.args in
     given a.p a.s a.n a.m a.t a.radices.now a.weights.now a.tables.now a.d.now) in
     let admitted : Admitted lent (Store (length c.args.store.now)) c.in-Accepted.plan =
-      (admission _ _ (sym c.admit.ensures ∙ ap answer_of c.in-Accepted.is)) in
+    (admission _ _ (sym c.admit.ensures ∙ ap answer_of c.in-Accepted.is)) in
     admitted.lent.radices
 
 pub returns-then-entries-entry : goal.returns-then-entries-entry
 returns-then-entries-entry c =
     let lent : Given =
-      (let a = c.args in
+    (let a = c.args in
     given a.p a.s a.n a.m a.t a.radices.now a.weights.now a.tables.now a.d.now) in
     let admitted : Admitted lent (Store (length c.args.store.now)) c.in-Accepted.plan =
-      (admission _ _ (sym c.admit.ensures ∙ ap answer_of c.in-Accepted.is)) in
+    (admission _ _ (sym c.admit.ensures ∙ ap answer_of c.in-Accepted.is)) in
     let sound : let Q = c.in-Accepted.plan in
     c.is_reduced.result ≡ is_reduced Q.p (columns Q) (cells (columns Q) c.args.store.now) =
-      (let Q = c.in-Accepted.plan in
+    (let Q = c.in-Accepted.plan in
     c.is_reduced.ensures ∙ ap (λ (n : ℕ). is_reduced Q.p n (cells n c.args.store.now)) c.columns.ensures) in
     let passing : let Q = c.in-Accepted.plan in
     is_reduced Q.p (columns Q) (cells (columns Q) c.args.store.now) ≡ true =
-      (sym sound ∙ not-false c.is_reduced.result (ap not c.if-not-is_reduced.false)) in
+    (sym sound ∙ not-false c.is_reduced.result (ap not c.if-not-is_reduced.false)) in
     let a = admitted in
     let far = rw c.entries.ensures at c.if-entries-entry.true in
     refused-answer 7 _ _ (sym (a.rest _ ∙ rw (passing, le-ltb _ _ far))) (omega arith)
@@ -87,17 +87,17 @@ returns-then-entries-entry c =
 pub settle_entry-requires : goal.settle_entry-requires
 settle_entry-requires c =
     let lent : Given =
-      (let a = c.args in
+    (let a = c.args in
     given a.p a.s a.n a.m a.t a.radices.now a.weights.now a.tables.now a.d.now) in
     let admitted : Admitted lent (Store (length c.args.store.now)) c.in-Accepted.plan =
-      (admission _ _ (sym c.admit.ensures ∙ ap answer_of c.in-Accepted.is)) in
+    (admission _ _ (sym c.admit.ensures ∙ ap answer_of c.in-Accepted.is)) in
     let sound : let Q = c.in-Accepted.plan in
     c.is_reduced.result ≡ is_reduced Q.p (columns Q) (cells (columns Q) c.args.store.now) =
-      (let Q = c.in-Accepted.plan in
+    (let Q = c.in-Accepted.plan in
     c.is_reduced.ensures ∙ ap (λ (n : ℕ). is_reduced Q.p n (cells n c.args.store.now)) c.columns.ensures) in
     let passing : let Q = c.in-Accepted.plan in
     is_reduced Q.p (columns Q) (cells (columns Q) c.args.store.now) ≡ true =
-      (sym sound ∙ not-false c.is_reduced.result (ap not c.if-not-is_reduced.false)) in
+    (sym sound ∙ not-false c.is_reduced.result (ap not c.if-not-is_reduced.false)) in
     let a = admitted in record {
       within = a.within;
       lent = a.lent;
@@ -112,20 +112,20 @@ returns-in-Refused c =
 pub returns-else-entries-entry : goal.returns-else-entries-entry
 returns-else-entries-entry c =
     let lent : Given =
-      (let a = c.args in
+    (let a = c.args in
     given a.p a.s a.n a.m a.t a.radices.now a.weights.now a.tables.now a.d.now) in
     let admitted : Admitted lent (Store (length c.args.store.now)) c.in-Accepted.plan =
-      (admission _ _ (sym c.admit.ensures ∙ ap answer_of c.in-Accepted.is)) in
+    (admission _ _ (sym c.admit.ensures ∙ ap answer_of c.in-Accepted.is)) in
     let sound : let Q = c.in-Accepted.plan in
     c.is_reduced.result ≡ is_reduced Q.p (columns Q) (cells (columns Q) c.args.store.now) =
-      (let Q = c.in-Accepted.plan in
+    (let Q = c.in-Accepted.plan in
     c.is_reduced.ensures ∙ ap (λ (n : ℕ). is_reduced Q.p n (cells n c.args.store.now)) c.columns.ensures) in
     let passing : let Q = c.in-Accepted.plan in
     is_reduced Q.p (columns Q) (cells (columns Q) c.args.store.now) ≡ true =
-      (sym sound ∙ not-false c.is_reduced.result (ap not c.if-not-is_reduced.false)) in
+    (sym sound ∙ not-false c.is_reduced.result (ap not c.if-not-is_reduced.false)) in
     let near : let a = c.args in
     a.entry < product a.radices.now =
-      (rw c.entries.ensures at c.if-entries-entry.false) in
+    (rw c.entries.ensures at c.if-entries-entry.false) in
     let ranged = c in
     let r = ranged in
     let a = admitted in

@@ -16,19 +16,19 @@ use Rattle.store.proofs.calls.test.Goals as goal
 pub columns-requires : goal.columns-requires
 columns-requires c =
     let lent : Given =
-      (let a = c.args in
+    (let a = c.args in
     given a.p a.s a.n a.m a.t a.radices.now a.weights.now a.tables.now a.d.now) in
     let admitted : Admitted lent (Store (length c.args.store.now)) c.in-Accepted.plan =
-      (admission _ _ (sym c.admit.ensures ∙ ap answer_of c.in-Accepted.is)) in
+    (admission _ _ (sym c.admit.ensures ∙ ap answer_of c.in-Accepted.is)) in
     admitted.within
 
 pub is_reduced-requires : goal.is_reduced-requires
 is_reduced-requires c =
     let lent : Given =
-      (let a = c.args in
+    (let a = c.args in
     given a.p a.s a.n a.m a.t a.radices.now a.weights.now a.tables.now a.d.now) in
     let admitted : Admitted lent (Store (length c.args.store.now)) c.in-Accepted.plan =
-      (admission _ _ (sym c.admit.ensures ∙ ap answer_of c.in-Accepted.is)) in
+    (admission _ _ (sym c.admit.ensures ∙ ap answer_of c.in-Accepted.is)) in
     let a = admitted in
     let e = c.columns.ensures in record {
       c_bound = columns-small _ a.within e;
@@ -39,13 +39,13 @@ is_reduced-requires c =
 pub returns-then-not-is_reduced : goal.returns-then-not-is_reduced
 returns-then-not-is_reduced c =
     let lent : Given =
-      (let a = c.args in
+    (let a = c.args in
     given a.p a.s a.n a.m a.t a.radices.now a.weights.now a.tables.now a.d.now) in
     let admitted : Admitted lent (Store (length c.args.store.now)) c.in-Accepted.plan =
-      (admission _ _ (sym c.admit.ensures ∙ ap answer_of c.in-Accepted.is)) in
+    (admission _ _ (sym c.admit.ensures ∙ ap answer_of c.in-Accepted.is)) in
     let sound : let Q = c.in-Accepted.plan in
     c.is_reduced.result ≡ is_reduced Q.p (columns Q) (cells (columns Q) c.args.store.now) =
-      (let Q = c.in-Accepted.plan in
+    (let Q = c.in-Accepted.plan in
     c.is_reduced.ensures ∙ ap (λ (n : ℕ). is_reduced Q.p n (cells n c.args.store.now)) c.columns.ensures) in
     let a = admitted in
     sym (a.rest _ ∙ rw (sym sound ∙ not-true c.is_reduced.result (ap not c.if-not-is_reduced.true)))
@@ -56,13 +56,13 @@ returns-in-Refused c = (turned-away _ _ (sym c.admit.ensures ∙ ap answer_of c.
 pub returns-else-not-is_reduced : goal.returns-else-not-is_reduced
 returns-else-not-is_reduced c =
     let lent : Given =
-      (let a = c.args in
+    (let a = c.args in
     given a.p a.s a.n a.m a.t a.radices.now a.weights.now a.tables.now a.d.now) in
     let admitted : Admitted lent (Store (length c.args.store.now)) c.in-Accepted.plan =
-      (admission _ _ (sym c.admit.ensures ∙ ap answer_of c.in-Accepted.is)) in
+    (admission _ _ (sym c.admit.ensures ∙ ap answer_of c.in-Accepted.is)) in
     let sound : let Q = c.in-Accepted.plan in
     c.is_reduced.result ≡ is_reduced Q.p (columns Q) (cells (columns Q) c.args.store.now) =
-      (let Q = c.in-Accepted.plan in
+    (let Q = c.in-Accepted.plan in
     c.is_reduced.ensures ∙ ap (λ (n : ℕ). is_reduced Q.p n (cells n c.args.store.now)) c.columns.ensures) in
     let a = admitted in
     sym (a.rest _ ∙ rw (sym sound ∙ not-false c.is_reduced.result (ap not c.if-not-is_reduced.false)))

@@ -16,13 +16,13 @@ loop-r-init c = cleared-none _ _ _ _ _ c.requires.ready.places
 pub overflow_add-a : goal.overflow_add-a
 overflow_add-a c =
     let row : RowAt c.args.c c.loop-r.store c.loop-r.r c.loop-r.begin =
-      (clears-at c.requires.ready.reduced c.requires.line c.requires.k_lt_c c.loop-r.invariant c.loop-r-test.true) in
+    (clears-at c.requires.ready.reduced c.requires.line c.requires.k_lt_c c.loop-r.invariant c.loop-r-test.true) in
     omega (arith, row_fits row)
 
 pub overflow_add-end : goal.overflow_add-end
 overflow_add-end c =
     let row : RowAt c.args.c c.loop-r.store c.loop-r.r c.loop-r.begin =
-      (clears-at c.requires.ready.reduced c.requires.line c.requires.k_lt_c c.loop-r.invariant c.loop-r-test.true) in
+    (clears-at c.requires.ready.reduced c.requires.line c.requires.k_lt_c c.loop-r.invariant c.loop-r-test.true) in
     omega (arith, row_fits row)
 
 pub slice_bounds-clear_row-count : goal.slice_bounds-clear_row-count
@@ -34,7 +34,7 @@ slice_bounds-clear_row-start c = omega arith
 pub slice_bounds-clear_row-end : goal.slice_bounds-clear_row-end
 slice_bounds-clear_row-end c =
     let row : RowAt c.args.c c.loop-r.store c.loop-r.r c.loop-r.begin =
-      (clears-at c.requires.ready.reduced c.requires.line c.requires.k_lt_c c.loop-r.invariant c.loop-r-test.true) in
+    (clears-at c.requires.ready.reduced c.requires.line c.requires.k_lt_c c.loop-r.invariant c.loop-r-test.true) in
     row_fits row
 
 pub slice_bounds-clear_row-count-in-loop-r : goal.slice_bounds-clear_row-count-in-loop-r
@@ -49,7 +49,7 @@ slice_bounds-clear_row-end-in-loop-r c = omega (arith, c.requires.line.places)
 pub clear_row-requires : goal.clear_row-requires
 clear_row-requires c =
     let row : RowAt c.args.c c.loop-r.store c.loop-r.r c.loop-r.begin =
-      (clears-at c.requires.ready.reduced c.requires.line c.requires.k_lt_c c.loop-r.invariant c.loop-r-test.true) in
+    (clears-at c.requires.ready.reduced c.requires.line c.requires.k_lt_c c.loop-r.invariant c.loop-r-test.true) in
     let turn = c in
     let s = c in
     let pos : 0 < s.args.p = omega (arith, s.requires.ready.modulus.0) in
@@ -57,9 +57,9 @@ clear_row-requires c =
       modulus = s.requires.ready.modulus;
       pivot_len = (cut-length s.requires.ready.reduced s.requires.line s.requires.k_lt_c ∙ sym tail, omega (arith, tail));
       residues = (
-          cleared-residues s.requires.ready.reduced s.requires.line s.requires.k_lt_c turn.loop-r.invariant turn.loop-r-test.true pos,
-          part-each (λ (x : ℕ). x < s.args.p) s.args.pivot.now s.args.k (s.args.c + 1 - s.args.k) pos s.requires.line.residues,
-        );
+        cleared-residues s.requires.ready.reduced s.requires.line s.requires.k_lt_c turn.loop-r.invariant turn.loop-r-test.true pos,
+        part-each (λ (x : ℕ). x < s.args.p) s.args.pivot.now s.args.k (s.args.c + 1 - s.args.k) pos s.requires.line.residues,
+      );
     }
 
 pub overflow_sub-begin : goal.overflow_sub-begin
@@ -68,7 +68,7 @@ overflow_sub-begin c = omega arith
 pub overflow_add-begin : goal.overflow_add-begin
 overflow_add-begin c =
     let row : RowAt c.args.c c.loop-r.store c.loop-r.r c.loop-r.begin =
-      (clears-at c.requires.ready.reduced c.requires.line c.requires.k_lt_c c.loop-r.invariant c.loop-r-test.true) in
+    (clears-at c.requires.ready.reduced c.requires.line c.requires.k_lt_c c.loop-r.invariant c.loop-r-test.true) in
     omega (arith, row_fits row)
 
 pub overflow_add-r : goal.overflow_add-r
@@ -85,6 +85,6 @@ loop-r-preserved c =
 
 pub returns : goal.returns
 returns c = record {
-      value = cleared-start c.loop-r.invariant c.loop-r-test.false;
-      store_after = cleared-all c.loop-r.invariant c.loop-r-test.false;
-    }
+  value = cleared-start c.loop-r.invariant c.loop-r-test.false;
+  store_after = cleared-all c.loop-r.invariant c.loop-r-test.false;
+}

@@ -13,7 +13,7 @@ use Rattle.store.proofs.elimination.defer_short.Goals as goal
 pub accumulate-requires : goal.accumulate-requires
 accumulate-requires c =
     let zeros : (length c.args.acc.now ≡ c.args.c + 1) × (length c.args.short.now ≡ c.args.c + 1) =
-      ((ap length c.requires.acc_value ∙ tab-length (c.args.c + 1) (λ _. 0), ap length c.requires.short_value ∙ tab-length (c.args.c + 1) (λ _. 0))) in
+    ((ap length c.requires.acc_value ∙ tab-length (c.args.c + 1) (λ _. 0), ap length c.requires.short_value ∙ tab-length (c.args.c + 1) (λ _. 0))) in
     let s = c in record {
       ys_len = s.requires.line.places ∙ sym zeros.0;
       headroom = λ i. omega (arith, all-zero (s.args.c + 1) _ s.requires.acc_value i);
@@ -49,14 +49,14 @@ make_room-left-requires c =
 pub overflow_add-a : goal.overflow_add-a
 overflow_add-a c =
     let row : RowAt c.args.c c.args.store.now c.loop-q.q c.loop-q.begin =
-      (row_at c.requires.ready c.requires.line c.loop-q.invariant.0.both c.loop-q-test.true) in
+    (row_at c.requires.ready c.requires.line c.loop-q.invariant.0.both c.loop-q-test.true) in
     let turn = c in
     omega (arith, row_fits row)
 
 pub overflow_add-end : goal.overflow_add-end
 overflow_add-end c =
     let row : RowAt c.args.c c.args.store.now c.loop-q.q c.loop-q.begin =
-      (row_at c.requires.ready c.requires.line c.loop-q.invariant.0.both c.loop-q-test.true) in
+    (row_at c.requires.ready c.requires.line c.loop-q.invariant.0.both c.loop-q-test.true) in
     let turn = c in
     omega (arith, row_fits row)
 
@@ -68,7 +68,7 @@ bounds-e-q c =
 pub bounds-store-a : goal.bounds-store-a
 bounds-store-a c =
     let row : RowAt c.args.c c.args.store.now c.loop-q.q c.loop-q.begin =
-      (row_at c.requires.ready c.requires.line c.loop-q.invariant.0.both c.loop-q-test.true) in
+    (row_at c.requires.ready c.requires.line c.loop-q.invariant.0.both c.loop-q-test.true) in
     let turn = c in
     omega (arith, row_fits row)
 
@@ -91,7 +91,7 @@ slice_bounds-accumulate_short-end c =
     let held : let args = c.args in
     let loop = c.loop-q in
     Held args.p args.c args.store.now args.e.now loop.q loop.begin c.make_room-left.result c.make_room-left.new.acc c.make_room-left.new.short × (0 < c.make_room-left.result) =
-      (let loop = c.loop-q in
+    (let loop = c.loop-q in
     held-room loop.invariant.0 _ _ _ _ loop.invariant.1 loop.invariant.2 c.make_room-left.ensures) in
     let r = c in
     omega (arith, held.0.narrow)
@@ -105,18 +105,18 @@ slice_bounds-accumulate_short-start-in-loop-q c = omega arith
 pub slice_bounds-accumulate_short-end-in-loop-q : goal.slice_bounds-accumulate_short-end-in-loop-q
 slice_bounds-accumulate_short-end-in-loop-q c =
     let row : RowAt c.args.c c.args.store.now c.loop-q.q c.loop-q.begin =
-      (row_at c.requires.ready c.requires.line c.loop-q.invariant.0.both c.loop-q-test.true) in
+    (row_at c.requires.ready c.requires.line c.loop-q.invariant.0.both c.loop-q-test.true) in
     let turn = c in
     row_fits row
 
 pub accumulate_short-requires : goal.accumulate_short-requires
 accumulate_short-requires c =
     let row : RowAt c.args.c c.args.store.now c.loop-q.q c.loop-q.begin =
-      (row_at c.requires.ready c.requires.line c.loop-q.invariant.0.both c.loop-q-test.true) in
+    (row_at c.requires.ready c.requires.line c.loop-q.invariant.0.both c.loop-q-test.true) in
     let held : let args = c.args in
     let loop = c.loop-q in
     Held args.p args.c args.store.now args.e.now loop.q loop.begin c.make_room-left.result c.make_room-left.new.acc c.make_room-left.new.short × (0 < c.make_room-left.result) =
-      (let loop = c.loop-q in
+    (let loop = c.loop-q in
     held-room loop.invariant.0 _ _ _ _ loop.invariant.1 loop.invariant.2 c.make_room-left.ensures) in
     let roomy = c in
     let turn = roomy in
@@ -132,7 +132,7 @@ overflow_sub-left c =
     let held : let args = c.args in
     let loop = c.loop-q in
     Held args.p args.c args.store.now args.e.now loop.q loop.begin c.make_room-left.result c.make_room-left.new.acc c.make_room-left.new.short × (0 < c.make_room-left.result) =
-      (let loop = c.loop-q in
+    (let loop = c.loop-q in
     held-room loop.invariant.0 _ _ _ _ loop.invariant.1 loop.invariant.2 c.make_room-left.ensures) in
     let roomy = c in
     omega (arith, held.1)
@@ -143,7 +143,7 @@ overflow_sub-begin c = omega arith
 pub overflow_add-begin : goal.overflow_add-begin
 overflow_add-begin c =
     let row : RowAt c.args.c c.args.store.now c.loop-q.q c.loop-q.begin =
-      (row_at c.requires.ready c.requires.line c.loop-q.invariant.0.both c.loop-q-test.true) in
+    (row_at c.requires.ready c.requires.line c.loop-q.invariant.0.both c.loop-q-test.true) in
     omega (arith, row_fits row)
 
 pub overflow_add-q : goal.overflow_add-q
@@ -157,7 +157,7 @@ loop-q-preserved c =
     let held : let args = c.args in
     let loop = c.loop-q in
     Held args.p args.c args.store.now args.e.now loop.q loop.begin c.make_room-left.result c.make_room-left.new.acc c.make_room-left.new.short × (0 < c.make_room-left.result) =
-      (let loop = c.loop-q in
+    (let loop = c.loop-q in
     held-room loop.invariant.0 _ _ _ _ loop.invariant.1 loop.invariant.2 c.make_room-left.ensures) in
     let roomy = c in
     let turn = roomy in

@@ -13,7 +13,7 @@ use Rattle.store.proofs.elimination.defer_wide.Goals as goal
 pub accumulate-requires : goal.accumulate-requires
 accumulate-requires c =
     let zeros : length c.args.acc.now ≡ c.args.c + 1 =
-      (ap length c.requires.acc_value ∙ tab-length (c.args.c + 1) (λ _. 0)) in
+    (ap length c.requires.acc_value ∙ tab-length (c.args.c + 1) (λ _. 0)) in
     let s = c in record {
       ys_len = s.requires.line.places ∙ sym zeros;
       headroom = λ i. omega (arith, all-zero (s.args.c + 1) _ s.requires.acc_value i);
@@ -30,13 +30,13 @@ loop-q-init c =
 pub overflow_add-a : goal.overflow_add-a
 overflow_add-a c =
     let row : RowAt c.args.c c.args.store.now c.loop-q.q c.loop-q.begin =
-      (row_at c.requires.ready c.requires.line c.loop-q.invariant.0 c.loop-q-test.true) in
+    (row_at c.requires.ready c.requires.line c.loop-q.invariant.0 c.loop-q-test.true) in
     omega (arith, row_fits row)
 
 pub overflow_add-end : goal.overflow_add-end
 overflow_add-end c =
     let row : RowAt c.args.c c.args.store.now c.loop-q.q c.loop-q.begin =
-      (row_at c.requires.ready c.requires.line c.loop-q.invariant.0 c.loop-q-test.true) in
+    (row_at c.requires.ready c.requires.line c.loop-q.invariant.0 c.loop-q-test.true) in
     omega (arith, row_fits row)
 
 pub bounds-e-q : goal.bounds-e-q
@@ -45,7 +45,7 @@ bounds-e-q c = omega (arith, c.requires.line.places)
 pub bounds-store-a : goal.bounds-store-a
 bounds-store-a c =
     let row : RowAt c.args.c c.args.store.now c.loop-q.q c.loop-q.begin =
-      (row_at c.requires.ready c.requires.line c.loop-q.invariant.0 c.loop-q-test.true) in
+    (row_at c.requires.ready c.requires.line c.loop-q.invariant.0 c.loop-q-test.true) in
     omega (arith, row_fits row)
 
 pub factor-g-requires : goal.factor-g-requires
@@ -74,13 +74,13 @@ slice_bounds-accumulate-start-in-loop-q c = omega arith
 pub slice_bounds-accumulate-end-in-loop-q : goal.slice_bounds-accumulate-end-in-loop-q
 slice_bounds-accumulate-end-in-loop-q c =
     let row : RowAt c.args.c c.args.store.now c.loop-q.q c.loop-q.begin =
-      (row_at c.requires.ready c.requires.line c.loop-q.invariant.0 c.loop-q-test.true) in
+    (row_at c.requires.ready c.requires.line c.loop-q.invariant.0 c.loop-q-test.true) in
     row_fits row
 
 pub accumulate-requires-in-loop-q : goal.accumulate-requires-in-loop-q
 accumulate-requires-in-loop-q c =
     let row : RowAt c.args.c c.args.store.now c.loop-q.q c.loop-q.begin =
-      (row_at c.requires.ready c.requires.line c.loop-q.invariant.0 c.loop-q-test.true) in
+    (row_at c.requires.ready c.requires.line c.loop-q.invariant.0 c.loop-q-test.true) in
     let turn = c in
     let s = c in
     let loop = turn.loop-q in record {
@@ -96,7 +96,7 @@ overflow_sub-begin c = omega arith
 pub overflow_add-begin : goal.overflow_add-begin
 overflow_add-begin c =
     let row : RowAt c.args.c c.args.store.now c.loop-q.q c.loop-q.begin =
-      (row_at c.requires.ready c.requires.line c.loop-q.invariant.0 c.loop-q-test.true) in
+    (row_at c.requires.ready c.requires.line c.loop-q.invariant.0 c.loop-q-test.true) in
     omega (arith, row_fits row)
 
 pub overflow_add-q : goal.overflow_add-q

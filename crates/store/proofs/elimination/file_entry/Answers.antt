@@ -27,7 +27,7 @@ entry_equation-requires c =
 pub slice_bounds-e-end-2 : goal.slice_bounds-e-end-2
 slice_bounds-e-end-2 c =
     let lent : Given =
-      (lend c.args.plan c.args.radices.now c.args.weights.now c.args.tables.now c.args.d.now) in
+    (lend c.args.plan c.args.radices.now c.args.weights.now c.args.tables.now c.args.d.now) in
     let r = c in
     let s = c in
     held-room lent s.args.entry s.args.value s.requires.within s.requires.lent s.requires.value_lt_p r.columns-c.ensures r.entry_equation.ensures _
@@ -35,7 +35,7 @@ slice_bounds-e-end-2 c =
 pub slice_bounds-file_equation-end : goal.slice_bounds-file_equation-end
 slice_bounds-file_equation-end c =
     let lent : Given =
-      (lend c.args.plan c.args.radices.now c.args.weights.now c.args.tables.now c.args.d.now) in
+    (lend c.args.plan c.args.radices.now c.args.weights.now c.args.tables.now c.args.d.now) in
     let r = c in
     let s = c in
     sym (held-length lent s.args.entry s.args.value s.requires.within s.requires.lent s.requires.value_lt_p r.columns-c.ensures r.entry_equation.ensures _)
@@ -43,7 +43,7 @@ slice_bounds-file_equation-end c =
 pub file_equation-requires : goal.file_equation-requires
 file_equation-requires c =
     let lent : Given =
-      (lend c.args.plan c.args.radices.now c.args.weights.now c.args.tables.now c.args.d.now) in
+    (lend c.args.plan c.args.radices.now c.args.weights.now c.args.tables.now c.args.d.now) in
     let r = c in
     let s = c in record {
       ready = subst⁻¹ (λ (n : ℕ). Ready s.args.plan.p n s.args.store.now) r.columns-c.ensures s.requires.ready;
@@ -54,7 +54,7 @@ pub returns : goal.returns
 unfolding filed
 returns c =
     let lent : Given =
-      (lend c.args.plan c.args.radices.now c.args.weights.now c.args.tables.now c.args.d.now) in
+    (lend c.args.plan c.args.radices.now c.args.weights.now c.args.tables.now c.args.d.now) in
     let r = c in
     let s = c in
     let p = s.args.plan.p in

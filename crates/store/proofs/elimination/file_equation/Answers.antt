@@ -26,21 +26,21 @@ pub slice_bounds-res-end-2 : goal.slice_bounds-res-end-2
 slice_bounds-res-end-2 c =
     let left : let args = c.args in
     Left args.p args.c args.store.now (at args.e.now) c.residual.new.out =
-      (record { list = c.residual.ensures }) in
+    (record { list = c.residual.ensures }) in
     lead-room left _
 
 pub slice_bounds-lead-end : goal.slice_bounds-lead-end
 slice_bounds-lead-end c =
     let left : let args = c.args in
     Left args.p args.c args.store.now (at args.e.now) c.residual.new.out =
-      (record { list = c.residual.ensures }) in
+    (record { list = c.residual.ensures }) in
     sym (lead-length left _)
 
 pub slice_bounds-res-end-then-k-c : goal.slice_bounds-res-end-then-k-c
 slice_bounds-res-end-then-k-c c =
     let left : let args = c.args in
     Left args.p args.c args.store.now (at args.e.now) c.residual.new.out =
-      (record { list = c.residual.ensures }) in
+    (record { list = c.residual.ensures }) in
     let r = c in
     front-room _ r.residual.new.out _ (left-length left)
 
@@ -48,7 +48,7 @@ pub slice_bounds-insert_row-end : goal.slice_bounds-insert_row-end
 slice_bounds-insert_row-end c =
     let left : let args = c.args in
     Left args.p args.c args.store.now (at args.e.now) c.residual.new.out =
-      (record { list = c.residual.ensures }) in
+    (record { list = c.residual.ensures }) in
     let r = c in
     sym (front_length _ r.residual.new.out _ (left-length left))
 
@@ -56,10 +56,10 @@ pub insert_row-requires : goal.insert_row-requires
 insert_row-requires c =
     let left : let args = c.args in
     Left args.p args.c args.store.now (at args.e.now) c.residual.new.out =
-      (record { list = c.residual.ensures }) in
+    (record { list = c.residual.ensures }) in
     let found : let args = c.args in
     LeadAt args.p args.c args.store.now (at args.e.now) c.lead-k.result =
-      (lead-of left _ _ c.lead-k.ensures) in
+    (lead-of left _ _ c.lead-k.ensures) in
     let column : c.lead-k.result < c.args.c = c.if-k-c.true in
     let new = c in
     let r = new in
@@ -76,10 +76,10 @@ pub returns-then-k-c : goal.returns-then-k-c
 returns-then-k-c c =
     let left : let args = c.args in
     Left args.p args.c args.store.now (at args.e.now) c.residual.new.out =
-      (record { list = c.residual.ensures }) in
+    (record { list = c.residual.ensures }) in
     let found : let args = c.args in
     LeadAt args.p args.c args.store.now (at args.e.now) c.lead-k.result =
-      (lead-of left _ _ c.lead-k.ensures) in
+    (lead-of left _ _ c.lead-k.ensures) in
     let column : c.lead-k.result < c.args.c = c.if-k-c.true in
     let new = c in
     let r = new in
@@ -92,10 +92,10 @@ pub returns-then-res-c-ne0 : goal.returns-then-res-c-ne0
 returns-then-res-c-ne0 c =
     let left : let args = c.args in
     Left args.p args.c args.store.now (at args.e.now) c.residual.new.out =
-      (record { list = c.residual.ensures }) in
+    (record { list = c.residual.ensures }) in
     let found : let args = c.args in
     LeadAt args.p args.c args.store.now (at args.e.now) c.lead-k.result =
-      (lead-of left _ _ c.lead-k.ensures) in
+    (lead-of left _ _ c.lead-k.ensures) in
     let r = c in
     let k = found in
     let none = c.if-k-c.false in record {
@@ -107,10 +107,10 @@ pub returns : goal.returns
 returns c =
     let left : let args = c.args in
     Left args.p args.c args.store.now (at args.e.now) c.residual.new.out =
-      (record { list = c.residual.ensures }) in
+    (record { list = c.residual.ensures }) in
     let found : let args = c.args in
     LeadAt args.p args.c args.store.now (at args.e.now) c.lead-k.result =
-      (lead-of left _ _ c.lead-k.ensures) in
+    (lead-of left _ _ c.lead-k.ensures) in
     let r = c in
     let k = found in
     let none = c.if-k-c.false in record {

@@ -34,9 +34,9 @@ pub set_multiple-requires : goal.set_multiple-requires
 unfolding inverse
 set_multiple-requires c =
     let positive : 0 < c.args.p =
-      (omega (arith, c.requires.ready.modulus.0)) in
+    (omega (arith, c.requires.ready.modulus.0)) in
     let factor : c.inverse-g.result ≤ c.args.p =
-      (rw c.inverse-g.ensures (le_of_lt (mod-lt _ positive))) in
+    (rw c.inverse-g.ensures (le_of_lt (mod-lt _ positive))) in
     let s = c in
     let line = s.requires.line in record {
       modulus = s.requires.ready.modulus;
@@ -48,27 +48,27 @@ set_multiple-requires c =
 pub slice_bounds-pivot-end-2 : goal.slice_bounds-pivot-end-2
 slice_bounds-pivot-end-2 c =
     let positive : 0 < c.args.p =
-      (omega (arith, c.requires.ready.modulus.0)) in
+    (omega (arith, c.requires.ready.modulus.0)) in
     let line : Line c.args.p c.args.c c.set_multiple.new.out =
-      (pivot-line _ c.requires.line positive c.set_multiple.ensures) in
+    (pivot-line _ c.requires.line positive c.set_multiple.ensures) in
     let r = c in
     front-room _ r.set_multiple.new.out _ line.places
 
 pub slice_bounds-clear_above-end : goal.slice_bounds-clear_above-end
 slice_bounds-clear_above-end c =
     let positive : 0 < c.args.p =
-      (omega (arith, c.requires.ready.modulus.0)) in
+    (omega (arith, c.requires.ready.modulus.0)) in
     let line : Line c.args.p c.args.c c.set_multiple.new.out =
-      (pivot-line _ c.requires.line positive c.set_multiple.ensures) in
+    (pivot-line _ c.requires.line positive c.set_multiple.ensures) in
     let r = c in
     sym (front_length _ r.set_multiple.new.out _ line.places)
 
 pub clear_above-begin-requires : goal.clear_above-begin-requires
 clear_above-begin-requires c =
     let positive : 0 < c.args.p =
-      (omega (arith, c.requires.ready.modulus.0)) in
+    (omega (arith, c.requires.ready.modulus.0)) in
     let line : Line c.args.p c.args.c c.set_multiple.new.out =
-      (pivot-line _ c.requires.line positive c.set_multiple.ensures) in
+    (pivot-line _ c.requires.line positive c.set_multiple.ensures) in
     let r = c in
     let s = c in
     let column = s.requires.k_lt_c in
@@ -84,7 +84,7 @@ pub overflow_add-a : goal.overflow_add-a
 overflow_add-a c =
     let row : let args = c.args in
     RowAt args.c c.clear_above-begin.new.store args.k c.clear_above-begin.result =
-      (let s = c in
+    (let s = c in
     record { size = ap length c.clear_above-begin.ensures.store_after ∙ flat-length _ _; inside = s.requires.k_lt_c; begins = c.clear_above-begin.ensures.value }) in
     omega (arith, row_fits row)
 
@@ -92,7 +92,7 @@ pub overflow_add-end : goal.overflow_add-end
 overflow_add-end c =
     let row : let args = c.args in
     RowAt args.c c.clear_above-begin.new.store args.k c.clear_above-begin.result =
-      (let s = c in
+    (let s = c in
     record { size = ap length c.clear_above-begin.ensures.store_after ∙ flat-length _ _; inside = s.requires.k_lt_c; begins = c.clear_above-begin.ensures.value }) in
     omega (arith, row_fits row)
 
@@ -100,28 +100,28 @@ pub slice_bounds-set_multiple-end-2 : goal.slice_bounds-set_multiple-end-2
 slice_bounds-set_multiple-end-2 c =
     let row : let args = c.args in
     RowAt args.c c.clear_above-begin.new.store args.k c.clear_above-begin.result =
-      (let s = c in
+    (let s = c in
     record { size = ap length c.clear_above-begin.ensures.store_after ∙ flat-length _ _; inside = s.requires.k_lt_c; begins = c.clear_above-begin.ensures.value }) in
     row_fits row
 
 pub slice_bounds-set_multiple-end-3 : goal.slice_bounds-set_multiple-end-3
 slice_bounds-set_multiple-end-3 c =
     let positive : 0 < c.args.p =
-      (omega (arith, c.requires.ready.modulus.0)) in
+    (omega (arith, c.requires.ready.modulus.0)) in
     let line : Line c.args.p c.args.c c.set_multiple.new.out =
-      (pivot-line _ c.requires.line positive c.set_multiple.ensures) in
+    (pivot-line _ c.requires.line positive c.set_multiple.ensures) in
     let r = c in
     front-room _ r.set_multiple.new.out _ line.places
 
 pub set_multiple-requires-2 : goal.set_multiple-requires-2
 set_multiple-requires-2 c =
     let positive : 0 < c.args.p =
-      (omega (arith, c.requires.ready.modulus.0)) in
+    (omega (arith, c.requires.ready.modulus.0)) in
     let line : Line c.args.p c.args.c c.set_multiple.new.out =
-      (pivot-line _ c.requires.line positive c.set_multiple.ensures) in
+    (pivot-line _ c.requires.line positive c.set_multiple.ensures) in
     let row : let args = c.args in
     RowAt args.c c.clear_above-begin.new.store args.k c.clear_above-begin.result =
-      (let s = c in
+    (let s = c in
     record { size = ap length c.clear_above-begin.ensures.store_after ∙ flat-length _ _; inside = s.requires.k_lt_c; begins = c.clear_above-begin.ensures.value }) in
     let cleared = c in
     let r = cleared in
@@ -136,9 +136,9 @@ set_multiple-requires-2 c =
 pub returns : goal.returns
 returns c =
     let positive : 0 < c.args.p =
-      (omega (arith, c.requires.ready.modulus.0)) in
+    (omega (arith, c.requires.ready.modulus.0)) in
     let line : Line c.args.p c.args.c c.set_multiple.new.out =
-      (pivot-line _ c.requires.line positive c.set_multiple.ensures) in
+    (pivot-line _ c.requires.line positive c.set_multiple.ensures) in
     let cleared = c in
     let r = cleared in
     let s = c in

@@ -27,20 +27,20 @@ defer-requires c =
 pub slice_bounds-acc-end-2 : goal.slice_bounds-acc-end-2
 slice_bounds-acc-end-2 c =
     let count : length c.defer.new.acc ≡ c.args.c + 1 =
-      (ap length c.defer.ensures ∙ tab-length _ _) in
+    (ap length c.defer.ensures ∙ tab-length _ _) in
     front-room _ c.defer.new.acc _ count
 
 pub slice_bounds-reduce-end : goal.slice_bounds-reduce-end
 slice_bounds-reduce-end c =
     let count : length c.defer.new.acc ≡ c.args.c + 1 =
-      (ap length c.defer.ensures ∙ tab-length _ _) in
+    (ap length c.defer.ensures ∙ tab-length _ _) in
     let r = c in
     sym (front_length _ r.defer.new.acc _ count)
 
 pub reduce-requires : goal.reduce-requires
 reduce-requires c =
     let count : length c.defer.new.acc ≡ c.args.c + 1 =
-      (ap length c.defer.ensures ∙ tab-length _ _) in
+    (ap length c.defer.ensures ∙ tab-length _ _) in
     let r = c in record {
       modulus = c.requires.ready.modulus;
       acc_len = front_length _ r.defer.new.acc _ count ∙ sym c.requires.out_len;
@@ -49,6 +49,6 @@ reduce-requires c =
 pub returns : goal.returns
 returns c =
     let count : length c.defer.new.acc ≡ c.args.c + 1 =
-      (ap length c.defer.ensures ∙ tab-length _ _) in
+    (ap length c.defer.ensures ∙ tab-length _ _) in
     let r = c in
     c.reduce.ensures ∙ reduced-sums _ _ _ _ _ (front-list _ r.defer.new.acc _ count ∙ r.defer.ensures)

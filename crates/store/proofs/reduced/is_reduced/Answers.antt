@@ -5,9 +5,9 @@ use Rattle.store.proofs.reduced.is_reduced.Goals as goal
 
 pub passes-requires : goal.passes-requires
 passes-requires c = record {
-      c_bound = c.requires.c_bound;
-      store_len = c.requires.store_len;
-    }
+  c_bound = c.requires.c_bound;
+  store_len = c.requires.store_len;
+}
 
 pub returns : goal.returns
 returns c =

@@ -27,7 +27,7 @@ pub overflow_add-end : goal.overflow_add-end
 overflow_add-end c =
     let ends : let start = c in
     c.loop-q.begin + (start.args.c + 1 - c.loop-q.q) ≤ length start.args.store.now =
-      (let start = c in
+    (let start = c in
     row_room start.args.c start.args.store.now c.loop-q.q c.loop-q.begin c.loop-q.invariant.1 start.requires.store_len c.loop-q-test.true) in
     omega (arith, ends)
 
@@ -50,7 +50,7 @@ pub slice_bounds-take_row-end-in-loop-q : goal.slice_bounds-take_row-end-in-loop
 slice_bounds-take_row-end-in-loop-q c =
     let ends : let start = c in
     c.loop-q.begin + (start.args.c + 1 - c.loop-q.q) ≤ length start.args.store.now =
-      (let start = c in
+    (let start = c in
     row_room start.args.c start.args.store.now c.loop-q.q c.loop-q.begin c.loop-q.invariant.1 start.requires.store_len c.loop-q-test.true) in
     ends
 
@@ -58,7 +58,7 @@ pub take_row-sound-requires : goal.take_row-sound-requires
 take_row-sound-requires c =
     let ends : let start = c in
     c.loop-q.begin + (start.args.c + 1 - c.loop-q.q) ≤ length start.args.store.now =
-      (let start = c in
+    (let start = c in
     row_room start.args.c start.args.store.now c.loop-q.q c.loop-q.begin c.loop-q.invariant.1 start.requires.store_len c.loop-q-test.true) in
     let turn = c in
     let count = cut-length turn.args.store.now turn.loop-q.begin (turn.args.c + 1 - turn.loop-q.q) ends in record {
@@ -90,6 +90,6 @@ loop-q-preserved c =
 
 pub returns : goal.returns
 returns c = record {
-      tops_len = c.loop-q.invariant.0.places;
-      tops_after = taken-all c.loop-q.invariant.0 c.loop-q-test.false;
-    }
+  tops_len = c.loop-q.invariant.0.places;
+  tops_after = taken-all c.loop-q.invariant.0 c.loop-q-test.false;
+}

@@ -21,7 +21,7 @@ overflow_sub-a c = omega arith
 pub overflow_mul-a-2 : goal.overflow_mul-a-2
 overflow_mul-a-2 c =
     let few : c.args.from * (2 * c.args.c + 1 - c.args.from) ≤ 1024 * 2049 =
-      (let a : c.args.from ≤ 1024 = omega arith in
+    (let a : c.args.from ≤ 1024 = omega arith in
     let b : 2 * c.args.c + 1 - c.args.from ≤ 2049 = omega arith in
     mul-le-mul a b) in
     omega (arith, few)
@@ -29,7 +29,7 @@ overflow_mul-a-2 c =
 pub overflow_add-a-2 : goal.overflow_add-a-2
 overflow_add-a-2 c =
     let few : c.args.from * (2 * c.args.c + 1 - c.args.from) ≤ 1024 * 2049 =
-      (let a : c.args.from ≤ 1024 = omega arith in
+    (let a : c.args.from ≤ 1024 = omega arith in
     let b : 2 * c.args.c + 1 - c.args.from ≤ 2049 = omega arith in
     mul-le-mul a b) in
     omega (arith, few)
@@ -47,7 +47,7 @@ returns-then-store-a-eq0 c =
     let diagonal : let loop = c.loop-q in
     let args = c.args in
     at args.store.now loop.a ≡ cells args.c args.store.now loop.q loop.q =
-      (let loop = c.loop-q in
+    (let loop = c.loop-q in
     let args = c.args in
     ap (at args.store.now) loop.invariant.2 ∙ sym (cells_right args.c args.store.now loop.q loop.q (le_refl loop.q))) in
     let loop = c.loop-q in
@@ -75,7 +75,7 @@ loop-q-preserved c =
     let diagonal : let loop = c.loop-q in
     let args = c.args in
     at args.store.now loop.a ≡ cells args.c args.store.now loop.q loop.q =
-      (let loop = c.loop-q in
+    (let loop = c.loop-q in
     let args = c.args in
     ap (at args.store.now) loop.invariant.2 ∙ sym (cells_right args.c args.store.now loop.q loop.q (le_refl loop.q))) in
     let loop = c.loop-q in

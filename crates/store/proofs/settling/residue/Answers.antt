@@ -21,7 +21,7 @@ loop-i-init c =
 pub bounds-e-i : goal.bounds-e-i
 bounds-e-i c =
     let inside : c.loop-i.i < c.args.c =
-      (omega (arith, c.requires.q_le_c)) in
+    (omega (arith, c.requires.q_le_c)) in
     let turn = c in
     omega (arith, inside, c.requires.line.places)
 
@@ -36,9 +36,9 @@ overflow_cast-f c = omega (arith, c.requires.ready.modulus.1)
 pub bounds-store-a : goal.bounds-store-a
 bounds-store-a c =
     let inside : c.loop-i.i < c.args.c =
-      (omega (arith, c.requires.q_le_c)) in
+    (omega (arith, c.requires.q_le_c)) in
     let ends : let args = c.args in row_start args.c c.loop-i.i + (args.c + 1) ≤ length args.store.now =
-      (omega (arith, row-end c.args.c c.loop-i.i inside, c.requires.ready.places)) in
+    (omega (arith, row-end c.args.c c.loop-i.i inside, c.requires.ready.places)) in
     let turn = c in
     omega (arith, ends, c.requires.q_le_c)
 
@@ -46,15 +46,15 @@ pub overflow_mul-sum : goal.overflow_mul-sum
 overflow_mul-sum c =
     let place : let args = c.args in
     at args.store.now c.loop-i.a ≡ cells args.c args.store.now c.loop-i.i args.q =
-      (let args = c.args in
+    (let args = c.args in
     let loop = c.loop-i in
     ap (at args.store.now) loop.invariant.1 ∙ sym (cells_right args.c args.store.now loop.i args.q loop.invariant.0)) in
     let inside : c.loop-i.i < c.args.c =
-      (omega (arith, c.requires.q_le_c)) in
+    (omega (arith, c.requires.q_le_c)) in
     let room : let args = c.args in
     let i = c.loop-i.i in
     c.loop-i.sum + (args.p - at args.e.now i) * at args.store.now c.loop-i.a < 4294967296 =
-      (let s = c in
+    (let s = c in
     let i = c.loop-i.i in
     let term = ap (λ (x : ℕ). (s.args.p - at s.args.e.now i) * x) place in
     omega (arith, term, c.loop-i.invariant.2, sum_room s.requires.ready s.requires.line s.args.q i s.requires.q_le_c inside)) in
@@ -64,15 +64,15 @@ pub overflow_add-sum : goal.overflow_add-sum
 overflow_add-sum c =
     let place : let args = c.args in
     at args.store.now c.loop-i.a ≡ cells args.c args.store.now c.loop-i.i args.q =
-      (let args = c.args in
+    (let args = c.args in
     let loop = c.loop-i in
     ap (at args.store.now) loop.invariant.1 ∙ sym (cells_right args.c args.store.now loop.i args.q loop.invariant.0)) in
     let inside : c.loop-i.i < c.args.c =
-      (omega (arith, c.requires.q_le_c)) in
+    (omega (arith, c.requires.q_le_c)) in
     let room : let args = c.args in
     let i = c.loop-i.i in
     c.loop-i.sum + (args.p - at args.e.now i) * at args.store.now c.loop-i.a < 4294967296 =
-      (let s = c in
+    (let s = c in
     let i = c.loop-i.i in
     let term = ap (λ (x : ℕ). (s.args.p - at s.args.e.now i) * x) place in
     omega (arith, term, c.loop-i.invariant.2, sum_room s.requires.ready s.requires.line s.args.q i s.requires.q_le_c inside)) in
@@ -81,15 +81,15 @@ overflow_add-sum c =
 pub overflow_sub-a : goal.overflow_sub-a
 overflow_sub-a c =
     let inside : c.loop-i.i < c.args.c =
-      (omega (arith, c.requires.q_le_c)) in
+    (omega (arith, c.requires.q_le_c)) in
     omega (arith, inside)
 
 pub overflow_add-a : goal.overflow_add-a
 overflow_add-a c =
     let inside : c.loop-i.i < c.args.c =
-      (omega (arith, c.requires.q_le_c)) in
+    (omega (arith, c.requires.q_le_c)) in
     let ends : let args = c.args in row_start args.c c.loop-i.i + (args.c + 1) ≤ length args.store.now =
-      (omega (arith, row-end c.args.c c.loop-i.i inside, c.requires.ready.places)) in
+    (omega (arith, row-end c.args.c c.loop-i.i inside, c.requires.ready.places)) in
     let turn = c in
     omega (arith, ends, c.requires.q_le_c)
 
@@ -103,7 +103,7 @@ pub loop-i-preserved : goal.loop-i-preserved
 loop-i-preserved c =
     let place : let args = c.args in
     at args.store.now c.loop-i.a ≡ cells args.c args.store.now c.loop-i.i args.q =
-      (let args = c.args in
+    (let args = c.args in
     let loop = c.loop-i in
     ap (at args.store.now) loop.invariant.1 ∙ sym (cells_right args.c args.store.now loop.i args.q loop.invariant.0)) in
     let turn = c in

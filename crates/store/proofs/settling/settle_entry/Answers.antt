@@ -29,9 +29,9 @@ entry_equation-requires c =
 pub slice_bounds-e-end-2 : goal.slice_bounds-e-end-2
 slice_bounds-e-end-2 c =
     let lent : Given =
-      (lend c.args.plan c.args.radices.now c.args.weights.now c.args.tables.now c.args.d.now) in
+    (lend c.args.plan c.args.radices.now c.args.weights.now c.args.tables.now c.args.d.now) in
     let positive : 0 < c.args.plan.p =
-      (omega (arith, prime-low c.requires.within)) in
+    (omega (arith, prime-low c.requires.within)) in
     let r = c in
     let s = c in
     held-room lent s.args.entry 0 s.requires.within s.requires.lent positive r.columns-c.ensures r.entry_equation.ensures _
@@ -39,9 +39,9 @@ slice_bounds-e-end-2 c =
 pub slice_bounds-settle_equation-end : goal.slice_bounds-settle_equation-end
 slice_bounds-settle_equation-end c =
     let lent : Given =
-      (lend c.args.plan c.args.radices.now c.args.weights.now c.args.tables.now c.args.d.now) in
+    (lend c.args.plan c.args.radices.now c.args.weights.now c.args.tables.now c.args.d.now) in
     let positive : 0 < c.args.plan.p =
-      (omega (arith, prime-low c.requires.within)) in
+    (omega (arith, prime-low c.requires.within)) in
     let r = c in
     let s = c in
     sym (held-length lent s.args.entry 0 s.requires.within s.requires.lent positive r.columns-c.ensures r.entry_equation.ensures _)
@@ -49,9 +49,9 @@ slice_bounds-settle_equation-end c =
 pub settle_equation-requires : goal.settle_equation-requires
 settle_equation-requires c =
     let lent : Given =
-      (lend c.args.plan c.args.radices.now c.args.weights.now c.args.tables.now c.args.d.now) in
+    (lend c.args.plan c.args.radices.now c.args.weights.now c.args.tables.now c.args.d.now) in
     let positive : 0 < c.args.plan.p =
-      (omega (arith, prime-low c.requires.within)) in
+    (omega (arith, prime-low c.requires.within)) in
     let r = c in
     let s = c in record {
       ready = subst⁻¹ (λ (n : ℕ). Ready s.args.plan.p n s.args.store.now) r.columns-c.ensures s.requires.ready;
@@ -61,9 +61,9 @@ settle_equation-requires c =
 pub returns : goal.returns
 returns c =
     let lent : Given =
-      (lend c.args.plan c.args.radices.now c.args.weights.now c.args.tables.now c.args.d.now) in
+    (lend c.args.plan c.args.radices.now c.args.weights.now c.args.tables.now c.args.d.now) in
     let positive : 0 < c.args.plan.p =
-      (omega (arith, prime-low c.requires.within)) in
+    (omega (arith, prime-low c.requires.within)) in
     let r = c in
     let s = c in
     c.settle_equation.ensures

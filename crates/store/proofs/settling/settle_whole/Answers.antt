@@ -28,31 +28,31 @@ pub slice_bounds-res-end-2 : goal.slice_bounds-res-end-2
 slice_bounds-res-end-2 c =
     let left : let args = c.args in
     Left args.p args.c args.store.now (at args.e.now) c.residual.new.out =
-      (record { list = c.residual.ensures }) in
+    (record { list = c.residual.ensures }) in
     lead-room left _
 
 pub slice_bounds-lead-end : goal.slice_bounds-lead-end
 slice_bounds-lead-end c =
     let left : let args = c.args in
     Left args.p args.c args.store.now (at args.e.now) c.residual.new.out =
-      (record { list = c.residual.ensures }) in
+    (record { list = c.residual.ensures }) in
     sym (lead-length left _)
 
 pub returns-then-k-c : goal.returns-then-k-c
 returns-then-k-c c =
     let left : let args = c.args in
     Left args.p args.c args.store.now (at args.e.now) c.residual.new.out =
-      (record { list = c.residual.ensures }) in
+    (record { list = c.residual.ensures }) in
     let found : let args = c.args in
     LeadAt args.p args.c args.store.now (at args.e.now) c.lead-k.result =
-      (lead-of left _ _ c.lead-k.ensures) in
+    (lead-of left _ _ c.lead-k.ensures) in
     free-answer _ _ _ _ _ found.lead_is c.if-k-c.true
 
 pub opposite-requires : goal.opposite-requires
 opposite-requires c =
     let left : let args = c.args in
     Left args.p args.c args.store.now (at args.e.now) c.residual.new.out =
-      (record { list = c.residual.ensures }) in
+    (record { list = c.residual.ensures }) in
     let r = c in
     let args = c.args in
     let pos : 0 < args.p = omega (arith, c.requires.ready.modulus.0) in
@@ -62,9 +62,9 @@ pub returns : goal.returns
 returns c =
     let left : let args = c.args in
     Left args.p args.c args.store.now (at args.e.now) c.residual.new.out =
-      (record { list = c.residual.ensures }) in
+    (record { list = c.residual.ensures }) in
     let found : let args = c.args in
     LeadAt args.p args.c args.store.now (at args.e.now) c.lead-k.result =
-      (lead-of left _ _ c.lead-k.ensures) in
+    (lead-of left _ _ c.lead-k.ensures) in
     let none = c in
     forced-answer _ _ _ _ _ found.lead_is none.if-k-c.false _ _ (last-at left _) c.opposite.ensures

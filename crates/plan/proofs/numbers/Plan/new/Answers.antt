@@ -20,34 +20,34 @@ returns-then-not-is_odd_prime c = refused-prime _ _ _ _ _ _ (sym c.is_odd_prime.
 pub returns-then-not-radix_fits : goal.returns-then-not-radix_fits
 returns-then-not-radix_fits c =
     let prime : odd_prime c.args.p ≡ true =
-      (sym c.is_odd_prime.ensures ∙ not-false _ (ap not c.if-not-is_odd_prime.false)) in
+    (sym c.is_odd_prime.ensures ∙ not-false _ (ap not c.if-not-is_odd_prime.false)) in
     refused-value _ _ _ _ _ _ prime (not-false _ (sym c.radix_fits.ensures ∙ not-true _ (ap not c.if-not-radix_fits.true)))
 
 pub overflow_cast-p : goal.overflow_cast-p
 overflow_cast-p c =
     let prime : odd_prime c.args.p ≡ true =
-      (sym c.is_odd_prime.ensures ∙ not-false _ (ap not c.if-not-is_odd_prime.false)) in
+    (sym c.is_odd_prime.ensures ∙ not-false _ (ap not c.if-not-is_odd_prime.false)) in
     let prime-limit : c.args.p ≤ 251 =
-      (((odd_prime-means c.args.p).0 prime).1) in
+    (((odd_prime-means c.args.p).0 prime).1) in
     omega (arith, prime-limit)
 
 pub returns-then-not-radices_fit : goal.returns-then-not-radices_fit
 returns-then-not-radices_fit c =
     let prime : odd_prime c.args.p ≡ true =
-      (sym c.is_odd_prime.ensures ∙ not-false _ (ap not c.if-not-is_odd_prime.false)) in
+    (sym c.is_odd_prime.ensures ∙ not-false _ (ap not c.if-not-is_odd_prime.false)) in
     let value : let a = c.args in bad_radix a.p a.s ≡ false =
-      (not-true _ (sym c.radix_fits.ensures ∙ not-false _ (ap not c.if-not-radix_fits.false))) in
+    (not-true _ (sym c.radix_fits.ensures ∙ not-false _ (ap not c.if-not-radix_fits.false))) in
     let v = c in
     refused-radices _ _ _ _ _ _ prime value (sym c.radices_fit.ensures ∙ not-true _ (ap not c.if-not-radices_fit.true))
 
 pub returns-then-not-in_range : goal.returns-then-not-in_range
 returns-then-not-in_range c =
     let prime : odd_prime c.args.p ≡ true =
-      (sym c.is_odd_prime.ensures ∙ not-false _ (ap not c.if-not-is_odd_prime.false)) in
+    (sym c.is_odd_prime.ensures ∙ not-false _ (ap not c.if-not-is_odd_prime.false)) in
     let value : let a = c.args in bad_radix a.p a.s ≡ false =
-      (not-true _ (sym c.radix_fits.ensures ∙ not-false _ (ap not c.if-not-radix_fits.false))) in
+    (not-true _ (sym c.radix_fits.ensures ∙ not-false _ (ap not c.if-not-radix_fits.false))) in
     let fit : let a = c.args in radices_fit a.p a.radices.now ≡ true =
-      (sym c.radices_fit.ensures ∙ not-false _ (ap not c.if-not-radices_fit.false)) in
+    (sym c.radices_fit.ensures ∙ not-false _ (ap not c.if-not-radices_fit.false)) in
     let f = c in
     let v = c in
     refused-range _ _ _ _ _ _ prime value fit (not-false _ (sym c.in_range.ensures ∙ not-true _ (ap not c.if-not-in_range.true)))
@@ -55,19 +55,19 @@ returns-then-not-in_range c =
 pub product-requires : goal.product-requires
 product-requires c =
     let fit : let a = c.args in radices_fit a.p a.radices.now ≡ true =
-      (sym c.radices_fit.ensures ∙ not-false _ (ap not c.if-not-radices_fit.false)) in
+    (sym c.radices_fit.ensures ∙ not-false _ (ap not c.if-not-radices_fit.false)) in
     radices-positive _ _ fit
 
 pub returns-then-product-gt-ENTRIES : goal.returns-then-product-gt-ENTRIES
 returns-then-product-gt-ENTRIES c =
     let prime : odd_prime c.args.p ≡ true =
-      (sym c.is_odd_prime.ensures ∙ not-false _ (ap not c.if-not-is_odd_prime.false)) in
+    (sym c.is_odd_prime.ensures ∙ not-false _ (ap not c.if-not-is_odd_prime.false)) in
     let value : let a = c.args in bad_radix a.p a.s ≡ false =
-      (not-true _ (sym c.radix_fits.ensures ∙ not-false _ (ap not c.if-not-radix_fits.false))) in
+    (not-true _ (sym c.radix_fits.ensures ∙ not-false _ (ap not c.if-not-radix_fits.false))) in
     let fit : let a = c.args in radices_fit a.p a.radices.now ≡ true =
-      (sym c.radices_fit.ensures ∙ not-false _ (ap not c.if-not-radices_fit.false)) in
+    (sym c.radices_fit.ensures ∙ not-false _ (ap not c.if-not-radices_fit.false)) in
     let range : let a = c.args in out_of_range a.n a.m a.t ≡ false =
-      (not-true _ (sym c.in_range.ensures ∙ not-false _ (ap not c.if-not-in_range.false))) in
+    (not-true _ (sym c.in_range.ensures ∙ not-false _ (ap not c.if-not-in_range.false))) in
     let r = c in
     let f = c in
     let v = c in
@@ -77,19 +77,19 @@ returns-then-product-gt-ENTRIES c =
 pub overflow_cast-result : goal.overflow_cast-result
 overflow_cast-result c =
     let prime : odd_prime c.args.p ≡ true =
-      (sym c.is_odd_prime.ensures ∙ not-false _ (ap not c.if-not-is_odd_prime.false)) in
+    (sym c.is_odd_prime.ensures ∙ not-false _ (ap not c.if-not-is_odd_prime.false)) in
     let prime-limit : c.args.p ≤ 251 =
-      (((odd_prime-means c.args.p).0 prime).1) in
+    (((odd_prime-means c.args.p).0 prime).1) in
     omega (arith, prime-limit)
 
 pub overflow_cast-result-2 : goal.overflow_cast-result-2
 overflow_cast-result-2 c =
     let prime : odd_prime c.args.p ≡ true =
-      (sym c.is_odd_prime.ensures ∙ not-false _ (ap not c.if-not-is_odd_prime.false)) in
+    (sym c.is_odd_prime.ensures ∙ not-false _ (ap not c.if-not-is_odd_prime.false)) in
     let prime-limit : c.args.p ≤ 251 =
-      (((odd_prime-means c.args.p).0 prime).1) in
+    (((odd_prime-means c.args.p).0 prime).1) in
     let value : let a = c.args in bad_radix a.p a.s ≡ false =
-      (not-true _ (sym c.radix_fits.ensures ∙ not-false _ (ap not c.if-not-radix_fits.false))) in
+    (not-true _ (sym c.radix_fits.ensures ∙ not-false _ (ap not c.if-not-radix_fits.false))) in
     let v = c in
     let a = c.args in
     omega (arith, prime-limit, (radix-facts a.p a.s value).1)
@@ -97,13 +97,13 @@ overflow_cast-result-2 c =
 pub returns : goal.returns
 returns c =
     let prime : odd_prime c.args.p ≡ true =
-      (sym c.is_odd_prime.ensures ∙ not-false _ (ap not c.if-not-is_odd_prime.false)) in
+    (sym c.is_odd_prime.ensures ∙ not-false _ (ap not c.if-not-is_odd_prime.false)) in
     let value : let a = c.args in bad_radix a.p a.s ≡ false =
-      (not-true _ (sym c.radix_fits.ensures ∙ not-false _ (ap not c.if-not-radix_fits.false))) in
+    (not-true _ (sym c.radix_fits.ensures ∙ not-false _ (ap not c.if-not-radix_fits.false))) in
     let fit : let a = c.args in radices_fit a.p a.radices.now ≡ true =
-      (sym c.radices_fit.ensures ∙ not-false _ (ap not c.if-not-radices_fit.false)) in
+    (sym c.radices_fit.ensures ∙ not-false _ (ap not c.if-not-radices_fit.false)) in
     let range : let a = c.args in out_of_range a.n a.m a.t ≡ false =
-      (not-true _ (sym c.in_range.ensures ∙ not-false _ (ap not c.if-not-in_range.false))) in
+    (not-true _ (sym c.in_range.ensures ∙ not-false _ (ap not c.if-not-in_range.false))) in
     let r = c in
     let f = c in
     let v = c in

@@ -1,4 +1,3 @@
-use Prim.Native.Nat.{◌-◌}
 use native.Mathlib.Omega.{arith}
 use Rattle.program.proofs.Interpreting.{loaded-none, loaded-next, loaded-all}
 use Rattle.program.proofs.running.Registers.new.Goals as goal
