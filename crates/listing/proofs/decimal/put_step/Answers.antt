@@ -35,11 +35,8 @@ put_number-requires c =
     (let r = c in
     let s = c in
     left-next 4 25 (ended s.args.to 32) first (ended-small s.args.to 32 s.requires.kind_bound.1) (omega arith) c.put_number-third.ensures.out_after c.put_number-third.ensures.value) in
-    let third : let s = c.args in
-    Left 21 s.out.now s.at ((([] ++ ended s.kind 32) ++ ended s.to 32) ++ ended s.from 32) c.put_number-fourth.new.out c.put_number-fourth.result =
-    (let r = c in
-    let s = c in
-    left-next 4 21 (ended s.args.from 32) second (ended-small s.args.from 32 s.requires.kind_bound.2) (omega arith) c.put_number-fourth.ensures.out_after c.put_number-fourth.ensures.value) in
+    -- whichever number the third is, it has room for the last one
+    let third = left-next 4 21 _ second (ended-small _ 32 (omega (arith, c.requires.kind_bound))) (omega arith) c.put_number-fourth.ensures.out_after c.put_number-fourth.ensures.value in
     omega (arith, third.left)
 
 pub returns : goal.returns

@@ -1,5 +1,4 @@
 -- `readback::recovery::coefficient_step` meets its contract: the place is counted from the end of the program (`Recovering`). Assumes nothing.
--- the program's steps from its end, as the code counts them
 use mathlib.Core.Path.{◌≡◌}
 use Prim.Native.Nat.{◌+◌, ◌-◌, ◌*◌}
 use native.Mathlib.Omega.{arith}
@@ -9,6 +8,7 @@ use Rattle.readback.specs.Recovery.{first_product}
 use Rattle.readback.proofs.Recovering.{from_end, step-inner, step-last}
 use Rattle.readback.proofs.recovery.coefficient_step.Goals as goal
 
+-- the program's steps from its end, as the code counts them
 counted : (c : goal.After-step_count) →
     let P = c.args.plan in
     let b = c.args.b in

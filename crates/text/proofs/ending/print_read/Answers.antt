@@ -1,5 +1,4 @@
 -- `text::ending::print_read` meets its contract: the bytes of the text pushed from the start, and its end. Assumes nothing.
--- where the text has been fed, where its state begins, and the function's start
 use native.Mathlib.Omega.{arith}
 use Rattle.text.proofs.Turning.{sizes-kept}
 use Rattle.text.proofs.Finishing.{prints, sound-state, prints-meaning}

@@ -1,5 +1,4 @@
 -- `text::entries::entry_line` meets its contract: 13 first, then what filing answers. Assumes nothing.
--- from where the line is read
 use mathlib.Core.Path.{ap}
 use mathlib.Core.Bool.{not}
 use mathlib.Core.Path.{refl, sym, ◌∙◌}

@@ -1,5 +1,4 @@
 -- `text::stages::header_line` meets its contract: 13 first, then the constructor's refusal, then 14. Assumes nothing.
--- where the line is read, and where the constructor has answered
 use mathlib.Core.Bool.{not}
 use mathlib.Core.Path.{◌≡◌, sym, ap, ◌∙◌}
 use mathlib.Core.Bool.{true}
