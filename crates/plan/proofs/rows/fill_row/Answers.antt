@@ -30,7 +30,7 @@ slice_bounds-x-end-2 c =
     let filled : List ℕ =
     (c.fill_variables.new.x) in
     let count : length filled ≡ c.variables-l.result =
-    (ap length c.fill_variables.ensures ∙ values_length plan c.args.entry ∙ sym c.variables-l.ensures) in
+    (ap length c.fill_variables.ensures ∙ values_length plan _ ∙ sym c.variables-l.ensures) in
     simp length-append (omega (arith, count))
 
 pub slice_bounds-fill_blocks-end : goal.slice_bounds-fill_blocks-end
@@ -40,11 +40,11 @@ slice_bounds-fill_blocks-end c =
     let filled : List ℕ =
     (c.fill_variables.new.x) in
     let count : length filled ≡ c.variables-l.result =
-    (ap length c.fill_variables.ensures ∙ values_length plan c.args.entry ∙ sym c.variables-l.ensures) in
+    (ap length c.fill_variables.ensures ∙ values_length plan _ ∙ sym c.variables-l.ensures) in
     let front : (rest : List ℕ) → take c.variables-l.result (filled ++ rest) ≡ values plan c.args.entry =
     (λ rest. take_at filled rest c.variables-l.result count ∙ c.fill_variables.ensures) in
     let r = c in
-    sym (ap length (front _) ∙ values_length plan c.args.entry ∙ sym r.variables-l.ensures)
+    sym (ap length (front _) ∙ values_length plan _ ∙ sym r.variables-l.ensures)
 
 pub fill_blocks-requires : goal.fill_blocks-requires
 fill_blocks-requires c =
@@ -53,7 +53,7 @@ fill_blocks-requires c =
     let filled : List ℕ =
     (c.fill_variables.new.x) in
     let count : length filled ≡ c.variables-l.result =
-    (ap length c.fill_variables.ensures ∙ values_length plan c.args.entry ∙ sym c.variables-l.ensures) in
+    (ap length c.fill_variables.ensures ∙ values_length plan _ ∙ sym c.variables-l.ensures) in
     let front : (rest : List ℕ) → take c.variables-l.result (filled ++ rest) ≡ values plan c.args.entry =
     (λ rest. take_at filled rest c.variables-l.result count ∙ c.fill_variables.ensures) in
     let r = c in
@@ -76,7 +76,7 @@ returns c =
     let filled : List ℕ =
     (c.fill_variables.new.x) in
     let count : length filled ≡ c.variables-l.result =
-    (ap length c.fill_variables.ensures ∙ values_length plan c.args.entry ∙ sym c.variables-l.ensures) in
+    (ap length c.fill_variables.ensures ∙ values_length plan _ ∙ sym c.variables-l.ensures) in
     let front : (rest : List ℕ) → take c.variables-l.result (filled ++ rest) ≡ values plan c.args.entry =
     (λ rest. take_at filled rest c.variables-l.result count ∙ c.fill_variables.ensures) in
     let r = c in
