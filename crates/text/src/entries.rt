@@ -16,8 +16,8 @@ use store::Filed;
 pub fn pair_line(plan: Plan, a: usize, b: usize, c: usize, line: &[u8], store: &mut [u8]) -> Stage
     requires fits { Fits (Stage.EntryNames plan a b c) }
     requires in_bounds { 65536 ≤ length store.old }
-    ensures fact { Fits result }
-    ensures fact_2 { ((R w T d : List ℕ) → judged_of result R w T d store.new ≡ meaning.judged (meaning.entry_names (lend plan (take plan.n R) (take a w) (take b T) (take c d))) line.now) }
+    ensures fits_after { Fits result }
+    ensures judgement { (R w T d : List ℕ) → judged_of result R w T d store.new ≡ meaning.judged (meaning.entry_names (lend plan (take plan.n R) (take a w) (take b T) (take c d))) line.now }
 {
     if !same(line, b"entry value") {
         return Stage::Stopped(13);
@@ -88,7 +88,7 @@ pub fn entries_line(
     requires fits { Fits (Stage.Entries plan a b c) }
     requires n_in_bounds { (plan.n ≤ length radices.now) × (a ≤ length weights.now) × (b ≤ length tables.now) × (c ≤ length d.now) }
     requires in_bounds { 65536 ≤ length store.old }
-    ensures fact { Fits result }
+    ensures fits_after { Fits result }
     ensures store_after { judged_of result radices.now weights.now tables.now d.now store.new ≡ meaning.judged (meaning.entries (lend plan (take plan.n radices.now) (take a weights.now) (take b tables.now) (take c d.now)) (take (store_size (columns plan)) store.old)) line.now }
 {
     let size = store::store_size(plan.columns());

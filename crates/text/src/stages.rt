@@ -30,8 +30,8 @@ pub enum Stage {
 fn after_products(plan: Plan, j: usize, a: usize, b: usize, c: usize) -> Stage
     requires planned { Planned plan }
     requires a_bound { (a ≤ 4096) × (b ≤ 16384) × (c ≤ 64 * j) × (j ≤ 32) }
-    ensures fact { Fits result }
-    ensures fact_2 { ((R w T d S : List ℕ) → judged_of result R w T d S ≡ meaning.next (meaning.after_products (lend plan (take plan.n R) (take a w) (take b T) (take c d)) j)) }
+    ensures fits_after { Fits result }
+    ensures judgement { (R w T d S : List ℕ) → judged_of result R w T d S ≡ meaning.next (meaning.after_products (lend plan (take plan.n R) (take a w) (take b T) (take c d)) j) }
 {
     if j < plan.t {
         return Stage::Product(plan, j, a, b, c);
@@ -43,8 +43,8 @@ fn after_products(plan: Plan, j: usize, a: usize, b: usize, c: usize) -> Stage
 fn after_links(plan: Plan, k: usize, a: usize, b: usize) -> Stage
     requires planned { Planned plan }
     requires a_bound { (a ≤ 64 * k) × (b ≤ 251 * k) × (k ≤ 63) }
-    ensures fact { Fits result }
-    ensures fact_2 { ((R w T d S : List ℕ) → judged_of result R w T d S ≡ meaning.next (meaning.after_links (lend plan (take plan.n R) (take a w) (take b T) []) k)) }
+    ensures fits_after { Fits result }
+    ensures judgement { (R w T d S : List ℕ) → judged_of result R w T d S ≡ meaning.next (meaning.after_links (lend plan (take plan.n R) (take a w) (take b T) []) k) }
 {
     if k < plan.m {
         return Stage::Weights(plan, k, a, b);
@@ -54,8 +54,8 @@ fn after_links(plan: Plan, k: usize, a: usize, b: usize) -> Stage
 
 // The first names line.
 pub fn names_line(line: &[u8]) -> Stage
-    ensures fact { Fits result }
-    ensures fact_2 { ((R w T d S : List ℕ) → judged_of result R w T d S ≡ meaning.judged meaning.names line.now) }
+    ensures fits_after { Fits result }
+    ensures judgement { (R w T d S : List ℕ) → judged_of result R w T d S ≡ meaning.judged meaning.names line.now }
 {
     if !same(line, b"p s n links products") {
         return Stage::Stopped(13);
@@ -65,8 +65,8 @@ pub fn names_line(line: &[u8]) -> Stage
 
 // The values line: 13, causes 1 to 3 of its numbers, then 14.
 pub fn header_line(line: &[u8]) -> Stage
-    ensures fact { Fits result }
-    ensures fact_2 { ((R w T d S : List ℕ) → judged_of result R w T d S ≡ meaning.judged meaning.header line.now) }
+    ensures fits_after { Fits result }
+    ensures judgement { (R w T d S : List ℕ) → judged_of result R w T d S ≡ meaning.judged meaning.header line.now }
 {
     let mut v = [0usize; 5];
     if !read_line(line, 5, &mut v) {
@@ -87,8 +87,8 @@ pub fn header_line(line: &[u8]) -> Stage
 pub fn radices_line(plan: Plan, line: &[u8], radices: &mut [u8]) -> Stage
     requires fits { Fits (Stage.Radices plan) }
     requires in_bounds { 64 ≤ length radices.old }
-    ensures fact { Fits result }
-    ensures fact_2 { ((w T d S : List ℕ) → judged_of result radices.new w T d S ≡ meaning.judged (meaning.radices plan) line.now) }
+    ensures fits_after { Fits result }
+    ensures judgement { (w T d S : List ℕ) → judged_of result radices.new w T d S ≡ meaning.judged (meaning.radices plan) line.now }
 {
     let mut read = numbers_buffer();
     let n = plan.n;
@@ -121,8 +121,8 @@ pub fn weights_line(
 ) -> Stage
     requires fits { Fits (Stage.Weights plan k a b) }
     requires in_bounds { 4096 ≤ length weights.old }
-    ensures fact { Fits result }
-    ensures fact_2 { ((R T d S : List ℕ) → judged_of result R weights.new T d S ≡ meaning.judged (meaning.weights (lend plan (take plan.n R) (take a weights.old) (take b T) []) k) line.now) }
+    ensures fits_after { Fits result }
+    ensures judgement { (R T d S : List ℕ) → judged_of result R weights.new T d S ≡ meaning.judged (meaning.weights (lend plan (take plan.n R) (take a weights.old) (take b T) []) k) line.now }
 {
     let count = plan.n + k;
     let cause = part_line(line, plan.p, a, count, weights);
@@ -136,8 +136,8 @@ pub fn weights_line(
 pub fn table_line(plan: Plan, k: usize, a: usize, b: usize, line: &[u8], tables: &mut [u8]) -> Stage
     requires fits { Fits (Stage.Table plan k a b) }
     requires in_bounds { 16384 ≤ length tables.old }
-    ensures fact { Fits result }
-    ensures fact_2 { ((R w d S : List ℕ) → judged_of result R w tables.new d S ≡ meaning.judged (meaning.table (lend plan (take plan.n R) (take a w) (take b tables.old) []) k) line.now) }
+    ensures fits_after { Fits result }
+    ensures judgement { (R w d S : List ℕ) → judged_of result R w tables.new d S ≡ meaning.judged (meaning.table (lend plan (take plan.n R) (take a w) (take b tables.old) []) k) line.now }
 {
     let count = plan.p as usize;
     let cause = part_line(line, plan.p, b, count, tables);
@@ -159,8 +159,8 @@ pub fn product_line(
 ) -> Stage
     requires fits { Fits (Stage.Product plan j a b c) }
     requires in_bounds { 2048 ≤ length d.old }
-    ensures fact { Fits result }
-    ensures fact_2 { ((R w T S : List ℕ) → judged_of result R w T d.new S ≡ meaning.judged (meaning.products (lend plan (take plan.n R) (take a w) (take b T) (take c d.old)) j) line.now) }
+    ensures fits_after { Fits result }
+    ensures judgement { (R w T S : List ℕ) → judged_of result R w T d.new S ≡ meaning.judged (meaning.products (lend plan (take plan.n R) (take a w) (take b T) (take c d.old)) j) line.now }
 {
     let count = plan.n + plan.m;
     let cause = part_line(line, plan.p, c, count, d);

@@ -57,7 +57,7 @@ returns-then-cause-ne0 c =
     let entry-line = c.entry_line-cause in
     let size = c in
     let s = c in record {
-      fact = tt;
+      fits_after = tt;
       store_after = entries-refuses read s.args.store.now s.args.line.now _ _ sized.0 entry-line.ensures.r_value c.if-cause-ne0.true;
     }
 
@@ -72,6 +72,6 @@ returns c =
     let entry-line = c.entry_line-cause in
     let size = c in
     let s = c in record {
-      fact = s.requires.fits;
+      fits_after = s.requires.fits;
       store_after = entries-reaches read s.args.store.now s.args.line.now _ _ sized.0 entry-line.ensures.r_value _ c.if-cause-ne0.false inside entry-line.ensures.store_after entry-line.auto.store;
     }

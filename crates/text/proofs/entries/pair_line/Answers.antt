@@ -14,8 +14,8 @@ use Rattle.text.proofs.entries.pair_line.Goals as goal
 pub returns-then-not-same : goal.returns-then-not-same
 returns-then-not-same c =
     let args = c.args in record {
-      fact = tt;
-      fact_2 = λ R w T d. pair-thirteen (lend args.plan _ _ _ _) _ (sym c.same.ensures ∙ not-true _ (ap not c.if-not-same.true));
+      fits_after = tt;
+      judgement = λ R w T d. pair-thirteen (lend args.plan _ _ _ _) _ (sym c.same.ensures ∙ not-true _ (ap not c.if-not-same.true));
     }
 
 pub store_size-size-requires : goal.store_size-size-requires
@@ -41,6 +41,6 @@ returns c =
     let size = c in
     let passed = size in
     let s = c in record {
-      fact = s.requires.fits;
-      fact_2 = λ R w T d. pair-passed (lend s.args.plan _ _ _ _) s.args.line.now s.args.store.now _ _ (sym passed.same.ensures ∙ not-false _ (ap not passed.if-not-same.false)) sized.0 (omega (arith, sized.1, s.requires.in_bounds)) c.clear.ensures;
+      fits_after = s.requires.fits;
+      judgement = λ R w T d. pair-passed (lend s.args.plan _ _ _ _) s.args.line.now s.args.store.now _ _ (sym passed.same.ensures ∙ not-false _ (ap not passed.if-not-same.false)) sized.0 (omega (arith, sized.1, s.requires.in_bounds)) c.clear.ensures;
     }

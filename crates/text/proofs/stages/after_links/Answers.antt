@@ -5,12 +5,12 @@ use Rattle.text.proofs.stages.after_links.Goals as goal
 
 pub returns-then-k-plan : goal.returns-then-k-plan
 returns-then-k-plan c = record {
-  fact = (c.requires.planned, c.if-k-plan.true, c.requires.a_bound.0, c.requires.a_bound.1);
-  fact_2 = λ R w T d S. links-more _ _ c.if-k-plan.true;
+  fits_after = (c.requires.planned, c.if-k-plan.true, c.requires.a_bound.0, c.requires.a_bound.1);
+  judgement = λ R w T d S. links-more _ _ c.if-k-plan.true;
 }
 
 pub returns : goal.returns
 returns c = record {
-  fact = c.after_products.ensures.fact;
-  fact_2 = λ R w T d S. c.after_products.ensures.fact_2 R w T d S ∙ links-done _ _ c.if-k-plan.false;
+  fits_after = c.after_products.ensures.fits_after;
+  judgement = λ R w T d S. c.after_products.ensures.judgement R w T d S ∙ links-done _ _ c.if-k-plan.false;
 }

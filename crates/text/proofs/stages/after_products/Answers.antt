@@ -5,12 +5,12 @@ use Rattle.text.proofs.stages.after_products.Goals as goal
 
 pub returns-then-j-plan : goal.returns-then-j-plan
 returns-then-j-plan c = record {
-  fact = (c.requires.planned, c.if-j-plan.true, c.requires.a_bound.0, c.requires.a_bound.1, c.requires.a_bound.2);
-  fact_2 = λ R w T d S. products-more _ _ c.if-j-plan.true;
+  fits_after = (c.requires.planned, c.if-j-plan.true, c.requires.a_bound.0, c.requires.a_bound.1, c.requires.a_bound.2);
+  judgement = λ R w T d S. products-more _ _ c.if-j-plan.true;
 }
 
 pub returns : goal.returns
 returns c = record {
-  fact = (c.requires.planned, c.requires.a_bound.0, c.requires.a_bound.1, omega arith);
-  fact_2 = λ R w T d S. products-done _ _ c.if-j-plan.false;
+  fits_after = (c.requires.planned, c.requires.a_bound.0, c.requires.a_bound.1, omega arith);
+  judgement = λ R w T d S. products-done _ _ c.if-j-plan.false;
 }

@@ -11,8 +11,8 @@ use Rattle.text.proofs.stages.header_line.Goals as goal
 
 pub returns-then-not-read_line : goal.returns-then-not-read_line
 returns-then-not-read_line c = record {
-  fact = tt;
-  fact_2 = λ R w T d S. header-thirteen _ (sym c.read_line.ensures.0 ∙ not-true _ (ap not c.if-not-read_line.true));
+  fits_after = tt;
+  judgement = λ R w T d S. header-thirteen _ (sym c.read_line.ensures.0 ∙ not-true _ (ap not c.if-not-read_line.true));
 }
 
 pub columns-requires : goal.columns-requires
@@ -25,8 +25,8 @@ returns-then-columns-gt360 c =
     let read = c in
     let read-line = read.read_line in
     let accepted = sym c.new.ensures ∙ ap answer_of c.in-Accepted.is in record {
-      fact = tt;
-      fact_2 = λ R w T d S. header-wide _ _ (read-line.ensures.1 (not-false _ (ap not read.if-not-read_line.false))) asked _ accepted (rw c.columns.ensures at c.if-columns-gt360.true);
+      fits_after = tt;
+      judgement = λ R w T d S. header-wide _ _ (read-line.ensures.1 (not-false _ (ap not read.if-not-read_line.false))) asked _ accepted (rw c.columns.ensures at c.if-columns-gt360.true);
     }
 
 pub returns-in-Refused : goal.returns-in-Refused
@@ -35,8 +35,8 @@ returns-in-Refused c =
     (sym c.read_line.ensures.0 ∙ not-false _ (ap not c.if-not-read_line.false)) in
     let read = c in
     let read-line = read.read_line in record {
-      fact = tt;
-      fact_2 = λ R w T d S. header_refused _ _ (read-line.ensures.1 (not-false _ (ap not read.if-not-read_line.false))) asked _ (sym c.new.ensures ∙ ap answer_of c.in-Refused.is);
+      fits_after = tt;
+      judgement = λ R w T d S. header_refused _ _ (read-line.ensures.1 (not-false _ (ap not read.if-not-read_line.false))) asked _ (sym c.new.ensures ∙ ap answer_of c.in-Refused.is);
     }
 
 pub returns-else-columns-gt360 : goal.returns-else-columns-gt360
@@ -48,6 +48,6 @@ returns-else-columns-gt360 c =
     let read-line = read.read_line in
     let accepted = sym c.new.ensures ∙ ap answer_of checked.in-Accepted.is in
     let narrow = rw checked.columns.ensures at c.if-columns-gt360.false in record {
-      fact = (accepted-within _ _ _ _ _ _ accepted, narrow);
-      fact_2 = λ R w T d S. header-passed _ _ (read-line.ensures.1 (not-false _ (ap not read.if-not-read_line.false))) asked _ accepted narrow;
+      fits_after = (accepted-within _ _ _ _ _ _ accepted, narrow);
+      judgement = λ R w T d S. header-passed _ _ (read-line.ensures.1 (not-false _ (ap not read.if-not-read_line.false))) asked _ accepted narrow;
     }

@@ -8,12 +8,12 @@ use Rattle.text.proofs.stages.names_line.Goals as goal
 
 pub returns-then-not-same : goal.returns-then-not-same
 returns-then-not-same c = record {
-  fact = tt;
-  fact_2 = λ R w T d S. names-thirteen _ (sym c.same.ensures ∙ not-true _ (ap not c.if-not-same.true));
+  fits_after = tt;
+  judgement = λ R w T d S. names-thirteen _ (sym c.same.ensures ∙ not-true _ (ap not c.if-not-same.true));
 }
 
 pub returns : goal.returns
 returns c = record {
-  fact = tt;
-  fact_2 = λ R w T d S. names-passed _ (sym c.same.ensures ∙ not-false _ (ap not c.if-not-same.false));
+  fits_after = tt;
+  judgement = λ R w T d S. names-passed _ (sym c.same.ensures ∙ not-false _ (ap not c.if-not-same.false));
 }

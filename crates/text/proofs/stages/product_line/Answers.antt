@@ -8,8 +8,8 @@ pub returns-then-cause-ne0 : goal.returns-then-cause-ne0
 returns-then-cause-ne0 c =
     let read = c in
     let args = c.args in record {
-      fact = tt;
-      fact_2 = λ R w T S. product-refuses args.plan args.j _ _ args.line.now read.part_line-cause.ensures.r_value _ _ _ c.if-cause-ne0.true;
+      fits_after = tt;
+      judgement = λ R w T S. product-refuses args.plan args.j _ _ args.line.now read.part_line-cause.ensures.r_value _ _ _ c.if-cause-ne0.true;
     }
 
 pub returns : goal.returns
@@ -17,7 +17,7 @@ returns c =
     let read = c in
     let pre = c.requires in
     let args = c.args in record {
-      fact = c.after_products.ensures.fact;
-      fact_2 = λ R w T S. c.after_products.ensures.fact_2 R w T _ S
+      fits_after = c.after_products.ensures.fits_after;
+      judgement = λ R w T S. c.after_products.ensures.judgement R w T _ S
           ∙ product-reaches args.plan args.j _ _ args.line.now read.part_line-cause.ensures.r_value _ _ args.d.now _ args.c c.if-cause-ne0.false (omega (arith, pre)) read.part_line-cause.ensures.buffer_after;
     }

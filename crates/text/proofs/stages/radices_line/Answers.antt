@@ -42,8 +42,8 @@ returns-then-cause-ne0 c =
     c.read_radices-cause.ensures.r_value ∙ ap (λ (n : ℕ). first (radices_causes n s.args.plan.p s.args.line.now)) radices-front) in
     let read = c in
     let args = c.args in record {
-      fact = tt;
-      fact_2 = λ w T d S. radices-refuses args.plan _ args.line.now cause-is c.if-cause-ne0.true;
+      fits_after = tt;
+      judgement = λ w T d S. radices-refuses args.plan _ args.line.now cause-is c.if-cause-ne0.true;
     }
 
 pub returns : goal.returns
@@ -55,7 +55,7 @@ returns c =
     c.read_radices-cause.ensures.r_value ∙ ap (λ (n : ℕ). first (radices_causes n s.args.plan.p s.args.line.now)) radices-front) in
     let read = c in
     let s = c in record {
-      fact = c.after_links.ensures.fact;
-      fact_2 = λ w T d S. c.after_links.ensures.fact_2 _ w T d S
+      fits_after = c.after_links.ensures.fits_after;
+      judgement = λ w T d S. c.after_links.ensures.judgement _ w T d S
           ∙ radices-reaches s.args.plan _ s.args.line.now cause-is _ _ _ c.if-cause-ne0.false (read.read_radices-cause.auto.radices ∙ radices-front) read.read_radices-cause.ensures.radices_after;
     }

@@ -58,49 +58,49 @@ entries_line-requires c =
 
 pub returns-in-Names : goal.returns-in-Names
 returns-in-Names c = record {
-  fits_2 = c.names_line.ensures.fact;
-  store_after = at_stage _ _ _ _ _ _ c.in-Names.is (c.names_line.ensures.fact_2 _ _ _ _ _);
+  fits_2 = c.names_line.ensures.fits_after;
+  store_after = at_stage _ _ _ _ _ _ c.in-Names.is (c.names_line.ensures.judgement _ _ _ _ _);
 }
 
 pub returns-in-Header : goal.returns-in-Header
 returns-in-Header c = record {
-  fits_2 = c.header_line.ensures.fact;
-  store_after = at_stage _ _ _ _ _ _ c.in-Header.is (c.header_line.ensures.fact_2 _ _ _ _ _);
+  fits_2 = c.header_line.ensures.fits_after;
+  store_after = at_stage _ _ _ _ _ _ c.in-Header.is (c.header_line.ensures.judgement _ _ _ _ _);
 }
 
 pub returns-in-Radices : goal.returns-in-Radices
 returns-in-Radices c = record {
-  fits_2 = c.radices_line.ensures.fact;
-  store_after = at_stage _ _ _ _ _ _ c.in-Radices.is (c.radices_line.ensures.fact_2 _ _ _ _);
+  fits_2 = c.radices_line.ensures.fits_after;
+  store_after = at_stage _ _ _ _ _ _ c.in-Radices.is (c.radices_line.ensures.judgement _ _ _ _);
 }
 
 pub returns-in-Weights : goal.returns-in-Weights
 returns-in-Weights c = record {
-  fits_2 = c.weights_line.ensures.fact;
-  store_after = at_stage _ _ _ _ _ _ c.in-Weights.is (c.weights_line.ensures.fact_2 _ _ _ _);
+  fits_2 = c.weights_line.ensures.fits_after;
+  store_after = at_stage _ _ _ _ _ _ c.in-Weights.is (c.weights_line.ensures.judgement _ _ _ _);
 }
 
 pub returns-in-Table : goal.returns-in-Table
 returns-in-Table c = record {
-  fits_2 = c.table_line.ensures.fact;
-  store_after = at_stage _ _ _ _ _ _ c.in-Table.is (c.table_line.ensures.fact_2 _ _ _ _);
+  fits_2 = c.table_line.ensures.fits_after;
+  store_after = at_stage _ _ _ _ _ _ c.in-Table.is (c.table_line.ensures.judgement _ _ _ _);
 }
 
 pub returns-in-Product : goal.returns-in-Product
 returns-in-Product c = record {
-  fits_2 = c.product_line.ensures.fact;
-  store_after = at_stage _ _ _ _ _ _ c.in-Product.is (c.product_line.ensures.fact_2 _ _ _ _);
+  fits_2 = c.product_line.ensures.fits_after;
+  store_after = at_stage _ _ _ _ _ _ c.in-Product.is (c.product_line.ensures.judgement _ _ _ _);
 }
 
 pub returns-in-EntryNames : goal.returns-in-EntryNames
 returns-in-EntryNames c = record {
-  fits_2 = c.pair_line.ensures.fact;
-  store_after = at_stage _ _ _ _ _ _ c.in-EntryNames.is (c.pair_line.ensures.fact_2 _ _ _ _);
+  fits_2 = c.pair_line.ensures.fits_after;
+  store_after = at_stage _ _ _ _ _ _ c.in-EntryNames.is (c.pair_line.ensures.judgement _ _ _ _);
 }
 
 pub returns-in-Entries : goal.returns-in-Entries
 returns-in-Entries c = record {
-  fits_2 = c.entries_line.ensures.fact;
+  fits_2 = c.entries_line.ensures.fits_after;
   store_after = at_stage _ _ _ _ _ _ c.in-Entries.is c.entries_line.ensures.store_after;
 }
 
