@@ -1,6 +1,6 @@
 // Filing and withdrawing with a list of entry records beside the store.
 //
-// The two calls stand once, as C functions in `celerycrag`, for a function that takes a slice of records is walked by hand; all that decides is
+// The two calls stand once, as C functions in `celerycrag`; all that decides is
 // here, over a copy of the records as a list of numbers, two each. Stands on `store`, `plan` and `field`, on `lines` for one test, and on `records`
 // for what a record is. Renders 02, C-18.
 #![tactic(auto)]
