@@ -5,9 +5,17 @@
 // A command is known by its place among the words in `read`, from 0. `args` has the numbers of the line. `held` has p s n m t, then at 5 the
 // length of the step slice, at 6 the count of the line's numbers, and from 8 the lengths of the byte parts: the text, radices, weights,
 // tables, d and digits, which stand in `parts`, then row, store, beta and full, which calls may write.
+#![tactic(auto)]
+
+ghost use Rattle.std.specs.Prelude.{take, IfOk};
+ghost use Rattle.std.specs.Io.{ReadsAtMost};
+ghost use Rattle.std.specs.Io.KnownBytes.{Consumes};
+
 use crate::calls::{general, move_store, print_text, with_program, with_readback, with_store};
 use crate::lines::{byte, find, line_end, numbers, wanted};
 use crate::parts::{append, put, put_steps};
+use std::io;
+use std::io::Read;
 
 mod calls;
 mod lines;
@@ -62,11 +70,16 @@ fn set(
 
 // Prints a line, and reads a command: its numbers into `args`, how many they are into held[6]. Answers which it is, 28 for a line of a text,
 // and 29 for a name or a malformed line.
-fn read(line: &[u8], args: &mut [usize; 2048], held: &mut [usize; 18]) -> usize {
-    io::write_all(1, line);
+fn read(
+    rt: &impl Print,
+    line: &[u8],
+    args: &mut [usize; 2048],
+    held: &mut [usize; 18],
+) -> io::Result<usize> {
+    rt.write_all(line)?;
     match byte(line, 0) {
-        b'#' | b'\n' => return 29,
-        b'>' => return 28,
+        b'#' | b'\n' => return Ok(29),
+        b'>' => return Ok(28),
         _ => {}
     }
     let k = find(
@@ -77,15 +90,16 @@ fn read(line: &[u8], args: &mut [usize; 2048], held: &mut [usize; 18]) -> usize 
     );
     let count = numbers(line, args);
     if wanted(k, count) != count {
-        io::write_all(1, b"= malformed\n");
-        return 29;
+        rt.println("= malformed")?;
+        return Ok(29);
     }
     held[6] = count;
-    k
+    Ok(k)
 }
 
 // A line.
 fn obey(
+    rt: &impl Print,
     line: &[u8],
     args: &mut [usize; 2048],
     held: &mut [usize; 18],
@@ -95,28 +109,29 @@ fn obey(
     beta: &mut [u8; 2048],
     full: &mut [u8; 2048],
     steps: &mut [u16; 2048],
-) {
-    let k = read(line, args, held);
+) -> io::Result<()> {
+    let k = read(rt, line, args, held)?;
     match k {
         0..=9 => set(k, args, held, parts, row, store, beta, full, steps),
-        10..=15 => with_store(k, args, held, parts, row, store, beta),
-        16..=20 => with_program(k, held, parts, beta, steps),
-        21 => with_readback(k, held, parts, beta, steps),
+        10..=15 => with_store(rt, k, args, held, parts, row, store, beta)?,
+        16..=20 => with_program(rt, k, held, parts, beta, steps)?,
+        21 => with_readback(rt, k, held, parts, beta, steps)?,
         22 => {
-            with_readback(k, held, parts, beta, steps);
+            with_readback(rt, k, held, parts, beta, steps)?;
             held[8] = 0;
         }
-        23 => print_text(held, parts, args[0]),
+        23 => print_text(rt, held, parts, args[0])?,
         24 => set(k, args, held, parts, row, store, beta, full, steps),
-        25 | 26 => move_store(k, held, parts, store, full),
-        27 => general(held, parts, store),
+        25 | 26 => move_store(rt, k, held, parts, store, full)?,
+        27 => general(rt, held, parts, store)?,
         28 => held[8] = append(&mut parts[0], held[8], line),
         _ => {}
     }
+    Ok(())
 }
 
 // Every line of the input, one after another.
-fn every_line(input: &[u8]) {
+fn every_line(rt: &impl Print, input: &[u8]) -> io::Result<()> {
     let mut args = [0usize; 2048];
     let mut held = [0usize; 18];
     let mut parts = [[0u8; 2048]; 6];
@@ -129,6 +144,7 @@ fn every_line(input: &[u8]) {
     while at < input.len() {
         let end = line_end(input, at);
         obey(
+            rt,
             &input[at..end],
             &mut args,
             &mut held,
@@ -138,13 +154,30 @@ fn every_line(input: &[u8]) {
             &mut beta,
             &mut full,
             &mut steps,
-        );
+        )?;
         at = end;
     }
+    Ok(())
 }
 
-fn main() {
+// Reads until `buf` is full or the input ends. Answers how many bytes that is: they stand at the front of `buf`.
+fn read_full<R: Read>(from: &mut R, buf: &mut [u8]) -> io::Result<usize>
+    ensures within { ReadsAtMost result buf.new }
+    ensures bytes { IfOk result (λ n. Consumes (R.remaining from.old) (R.remaining from.new) (take n buf.new)) }
+{
+    let mut done: usize = 0;
+    while done < buf.len() {
+        let n = from.read(&mut buf[done..])?;
+        if n == 0 {
+            break;
+        }
+        done += n;
+    }
+    Ok(done)
+}
+
+fn main(rt: HostRuntime) -> io::Result<()> {
     let mut input = [0u8; 131072];
-    let count = io::read_full(0, &mut input);
-    every_line(&input[..count]);
+    let count = read_full(&mut rt.stdin(), &mut input)?;
+    every_line(&rt, &input[..count])
 }

@@ -1,117 +1,111 @@
--- Reading standard input in chunks, over buffers that keep their lengths.
+-- Reading an input in chunks, and what is printed of it.
 --     Reading              what holds before each chunk
---     reading-start, reading-next      before the first chunk, and after each
---     left, left_less      the loop's measure: what may still be read; none after a read that moved no byte
+--     kept                 known bytes that nothing was done to
+--     taken-none, taken-more, taken-end      what a reader gave: before the first read, after one more, and after one that gave nothing
+--     fed-none, fed-more, fed-end            the same of what was fed
 --     fed-sound            what was read is what its plan asks for
---     printed-end, printed-none      the output's buffer where the end of the input was reached, and where not
---     printed-fits         what was printed lies within the slice it was printed into
+--     meant-of             what is printed of it is its meaning
+--     printed-end, printed-none      what was printed where the end of the input was reached, and where not
+--     all-taken            where the end was reached, the known bytes are just those that the reader gave
+--     known                so their meaning is written
 -- Assumes nothing.
-use mathlib.Core.Path.{◌≡◌, refl, sym, ap, subst, ◌∙◌}
-use mathlib.Core.Bool.{true, false≢true}
-use mathlib.Core.List.{List, [], ◌++◌}
-use Prim.Native.Nat.{ℕ, zero, suc, ◌+◌, ◌-◌, ◌≤◌, ◌<◌}
-use native.Mathlib.Omega.{arith}
-use lib.IntN.{ℤ, pos, negsuc}
-use lib.ListN.{length, drop, length-append}
-use lib.Signed.{lt_z}
-use mir.Syntax.{w64}
-use mir.Val.{SFits, of_z, to_z}
-use mir.ValLaws.{to_z-of_z}
-use Rattle.io.specs.Counts.{clamp_len}
-use Rattle.lists.specs.Places.{placed}
+use Rattle.std.proofs.Common.{◌≡◌, refl, sym, ap, ◌∙◌, List, [], ◌++◌, ℕ, ◌+◌, ◌≤◌, length, length-append, append_assoc, Option, None, Some, Result, OnOk, subst, append-nil, arith}
+use Rattle.std.specs.Prelude.{⊤}
+use Rattle.std.specs.Io.KnownBytes.{Consumes, IsAtEnd, Keeps, Appends}
 use Rattle.text.specs.Streaming.{State, start, pushes, finish}
-use Rattle.text.specs.Progress.{Fits, state_of}
-use Rattle.text.specs.Sound.{Sound, SoundState}
-use Rattle.text.specs.declared.turns.State as code
-use Rattle.text.proofs.Soundness.{sound-pushes}
+use Rattle.text.specs.Progress.{Fits}
+use Rattle.text.specs.declared.State as code
 use Rattle.text.proofs.Streaming.{pushes-append, streamed}
-use Rattle.text.proofs.Turning.{Kept, kept_next}
-use Rattle.filing.specs.Input.{most, Fed, output, Printed}
+use Rattle.text.specs.Meaning.{meaning}
+use Rattle.text.specs.Sound.{Sound, SoundState}
+use Rattle.text.proofs.Soundness.{sound-pushes}
+use Rattle.lists.specs.Places.{placed}
+use Rattle.filing.specs.declared.End.{End}
+use Rattle.filing.specs.declared.End.TheVariants.{Reached, TooLong, Failed}
+use Rattle.filing.specs.Input.{Fed, Ended, output, Shown, Printed, WritesMeaning}
 
-pub record Reading (chunk₀ line₀ R₀ w₀ T₀ d₀ S₀ chunk line R w T d S : List ℕ) (state : code.State) (count : ℕ) : Type 0 where
+pub record Reading (before rest : Option (List ℕ)) (state : code.State) (meant : State) (count : ℕ) : Type 0 where
   pub fits : Fits state.stage
   pub held : state.held ≤ 1024
   pub number : state.line ≤ count + 1
-  pub fed : Fed (state_of state line R w T d S) count
-  pub chunk-same : length chunk ≡ length chunk₀
-  pub line_same : length line ≡ length line₀
-  pub kept : Kept R₀ w₀ T₀ d₀ S₀ R w T d S
+  pub fed : Fed before rest meant count
 
-pub reading-start : (chunk line R w T d S : List ℕ) (state : code.State) → Fits state.stage × (state.held ≡ 0) × (state.line ≡ 1)
-    → state_of state line R w T d S ≡ start → Reading chunk line R w T d S chunk line R w T d S state 0
+taken-none : (before : Option (List ℕ)) → Consumes before before []
+taken-none None = tt
+taken-none (Some xs) = refl
+
+kept : (held : Option (List ℕ)) → Keeps held held
+kept None = tt
+kept (Some xs) = refl
+
+taken-more : (before rest after : Option (List ℕ)) (text part : List ℕ) → Consumes before rest text → Consumes rest after part → Consumes before after (text ++ part)
+taken-more None rest after text part t u = tt
+taken-more (Some xs) None after text part t u = absurd t
+taken-more (Some xs) (Some ys) None text part t u = absurd u
+taken-more (Some xs) (Some ys) (Some zs) text part t u = t ∙ ap (λ (l : List ℕ). text ++ l) u ∙ sym (append_assoc text part zs)
+
+taken-end : (before rest after : Option (List ℕ)) (text : List ℕ) → Consumes before rest text → Keeps rest after → Consumes before after text
+taken-end None rest after text t u = tt
+taken-end (Some xs) None after text t u = absurd t
+taken-end (Some xs) (Some ys) None text t u = absurd u
+taken-end (Some xs) (Some ys) (Some zs) text t u = t ∙ ap (λ (l : List ℕ). text ++ l) (sym u)
+
+pub fed-none : (before : Option (List ℕ)) (meant : State) → meant ≡ start → Fed before before meant 0
 unfolding pushes
-reading-start chunk line R w T d S state f e =
-    record {
-      fits = f.0;
-      held = omega (arith, f.1);
-      number = omega (arith, f.2);
-      fed = record { text = []; counted = refl; pushed = e };
-      chunk-same = refl;
-      line_same = refl;
-      kept = (refl, (refl, (refl, (refl, (refl, tt)))));
-    }
+fed-none before meant e = record { text = []; counted = refl; taken = taken-none before; pushed = e }
 
-module _ {chunk₀ line₀ R₀ w₀ T₀ d₀ S₀ chunk line R w T d S : List ℕ} {state : code.State} {count : ℕ} (r : Reading chunk₀ line₀ R₀ w₀ T₀ d₀ S₀ chunk line R w T d S state count) where
-  pub reading-next : (n : ℕ) (part chunk' line' R' w' T' d' S' : List ℕ) (state' : code.State) → n ≡ length part
-      → Fits state'.stage × (state'.held ≤ 1024) × (state'.line ≤ state.line + length part)
-      → state_of state' line' R' w' T' d' S' ≡ pushes (state_of state line R w T d S) part → length chunk' ≡ length chunk → length line' ≡ length line
-      → Kept R w T d S R' w' T' d' S'
-      → Reading chunk₀ line₀ R₀ w₀ T₀ d₀ S₀ chunk' line' R' w' T' d' S' state' (count + n)
-  reading-next n part chunk' line' R' w' T' d' S' state' m f e l1 l2 k =
-      let text = r.fed.text in
+module _ {before rest : Option (List ℕ)} {meant : State} {count : ℕ} (fed : Fed before rest meant count) where
+  pub fed-more : {after : Option (List ℕ)} (part : List ℕ) (n : ℕ) (next : State) → n ≡ length part → Consumes rest after part → next ≡ pushes meant part
+      → Fed before after next (count + n)
+  fed-more {after = after} part n next m u e =
       record {
-        fits = f.0;
-        held = f.1;
-        number = omega (arith, f.2, r.number);
-        fed = record {
-          text = text ++ part;
-          counted = length-append text part ∙ omega (arith, r.fed.counted);
-          pushed = e ∙ ap (λ (s : State). pushes s part) r.fed.pushed ∙ sym (pushes-append start text part);
-        };
-        chunk-same = l1 ∙ r.chunk-same;
-        line_same = l2 ∙ r.line_same;
-        kept = kept_next R₀ w₀ T₀ d₀ S₀ R w T d S R' w' T' d' S' r.kept k;
+        text = fed.text ++ part;
+        counted = length-append fed.text part ∙ omega (arith, fed.counted, m);
+        taken = taken-more before rest after fed.text part fed.taken u;
+        pushed = e ∙ ap (λ (s : State). pushes s part) fed.pushed ∙ sym (pushes-append start fed.text part);
       }
 
-unfoldable pub left : ℤ → ℕ → ℕ
-left (pos zero) count = 0
-left (pos (suc k)) count = suc (most - count)
-left (negsuc k) count = 0
+  pub fed-end : {after : Option (List ℕ)} → Keeps rest after → Fed before after meant count
+  fed-end {after = after} u = record { text = fed.text; counted = fed.counted; taken = taken-end before rest after fed.text fed.taken u; pushed = fed.pushed }
 
-pub left_less : (before last : ℤ) (count room n : ℕ) → lt_z (pos 0) before ≡ true → count < most → 0 < room → n ≡ clamp_len last room → left last (count + n) < left before count
-unfolding left
-left_less (pos zero) last count room n b c r e = absurd (false≢true b)
-left_less (negsuc j) last count room n b c r e = absurd (false≢true b)
-left_less (pos (suc j)) (pos zero) count room n b c r e = omega arith
-left_less (pos (suc j)) (pos (suc k)) count room n b c r e = omega arith
-left_less (pos (suc j)) (negsuc k) count room n b c r e = omega arith
-
-module _ {state : State} {count : ℕ} (fed : Fed state count) where
-  pub fed-sound : SoundState state
+  pub fed-sound : SoundState meant
   unfolding Sound SoundState
   fed-sound = subst SoundState (sym fed.pushed) (sound-pushes start fed.text tt)
 
-  -- the last answer is tested by its bits
-  pub printed-end : (last : ℤ) (out after : List ℕ) → SFits w64 last → of_z w64 last ≡ 0 → after ≡ placed out 0 (finish state) → Printed count last out after
-  unfolding output
-  printed-end last out after f z e =
-      let is-end : last ≡ pos 0 = sym (to_z-of_z w64 last f) ∙ ap (to_z w64) z in
+  meant-of : finish meant ≡ meaning fed.text
+  meant-of = ap finish fed.pushed ∙ streamed fed.text
+
+  pub printed-end : {E : Type 0} {held holds : Option (List ℕ)} {end : End} {written : Result ⊤ E} {out out' : List ℕ} → end ≡ Reached → Ended rest end count
+      → out' ≡ placed out 0 (finish meant) → OnOk written (Appends held holds (finish meant)) → Printed before rest held holds count end written out out'
+  unfolding output Shown
+  printed-end {held = held} {holds = holds} {written = written} {out = out} {out' = out'} r ended p w =
       record {
         text = fed.text;
         counted = fed.counted;
-        printed = e ∙ ap (placed out 0) (ap finish fed.pushed ∙ streamed fed.text) ∙ ap (λ (k : ℤ). output k fed.text out) (sym is-end);
+        taken = fed.taken;
+        ended = ended;
+        printed = subst (λ (e : End). out' ≡ output e fed.text out) (sym r) (p ∙ ap (placed out 0) meant-of);
+        shown = subst (λ (e : End). Shown e held holds fed.text written) (sym r) (subst (λ (bytes : List ℕ). OnOk written (Appends held holds bytes)) meant-of w);
       }
 
-  pub printed-none : (last : ℤ) (out : List ℕ) → (of_z w64 last ≡ 0 → ⊥) → Printed count last out out
-  unfolding output
-  printed-none last out z = record { text = fed.text; counted = fed.counted; printed = by last z }
-    where
-      by : (last : ℤ) → (of_z w64 last ≡ 0 → ⊥) → out ≡ output last fed.text out
-      by (pos zero) z = absurd (z refl)
-      by (pos (suc k)) z = refl
-      by (negsuc k) z = refl
+  pub printed-none : {E : Type 0} {held : Option (List ℕ)} {end : End} {written : Result ⊤ E} {out : List ℕ} → (end ≡ Reached → ⊥) → Ended rest end count
+      → Printed before rest held held count end written out out
+  unfolding output Shown
+  printed-none {end = Reached} other ended = absurd (other refl)
+  printed-none {held = held} {end = TooLong} other ended =
+      record { text = fed.text; counted = fed.counted; taken = fed.taken; ended = ended; printed = refl; shown = kept held }
+  printed-none {held = held} {end = Failed e} other ended =
+      record { text = fed.text; counted = fed.counted; taken = fed.taken; ended = ended; printed = refl; shown = kept held }
 
-pub printed-fits : (out exit xs : List ℕ) → exit ≡ placed out 0 xs → length exit ≡ length out → length xs ≤ length exit
-printed-fits out exit xs e l =
-    let whole : length exit ≡ length xs + length (drop (0 + length xs) out) = ap length e ∙ length-append xs (drop (0 + length xs) out) in
-    omega arith
+all-taken : (xs : List ℕ) (after : Option (List ℕ)) (text : List ℕ) → Consumes (Some xs) after text → IsAtEnd after → text ≡ xs
+all-taken xs None text t e = absurd t
+all-taken xs (Some ys) text t e = sym (t ∙ ap (λ (l : List ℕ). text ++ l) e ∙ append-nil text)
+
+pub known : {E : Type 0} (before after : Option (List ℕ)) {held holds : Option (List ℕ)} {count : ℕ} (end : End) {written : Result ⊤ E} {out out' : List ℕ}
+    → Printed before after held holds count end written out out' → WritesMeaning before end written held holds
+unfolding Shown WritesMeaning
+known None after end p = tt
+known (Some xs) after TooLong p = tt
+known (Some xs) after (Failed e) p = tt
+known (Some xs) after {held = held} {holds = holds} Reached {written = written} p =
+    subst (λ (text : List ℕ). OnOk written (Appends held holds (meaning text))) (all-taken xs after p.text p.taken p.ended) p.shown

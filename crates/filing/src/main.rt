@@ -1,29 +1,62 @@
 // The filing program: a plan text on standard input, the program's listing or a refusal on standard output.
 //
-// Holds `main` alone, with the buffers and the loop over standard input: here bytes are only moved, `text` judges and prints (`start`,
-// `feed`, `finish`). Nothing is printed before the text has ended, and where standard input cannot be read to its end, only standard error
-// is written to. `run` promises this of what was read and of the buffer that is printed (specs/Input.antt); that the system's calls delivered
-// the one and took the other no contract can say, and rust/celerycrag/tests/streams.rs looks. Stands on `text`, and on `io`, `libc` and `os`
-// of the kit. Renders 01, "The filing program"; docs/FORMAT.md explains it to users.
-ghost use Rattle.std.specs.Prelude.{◌≡◌, ◌≤◌, ◌<◌, length};
+// Here bytes are only moved, `text` judges and prints (`start`, `feed`, `finish`). `run` reads from any reader and writes to any writer; `main`
+// hands it the standard streams, and buffers. Nothing is written before the text has ended, and where the input cannot be read to its end, only
+// standard error is written to. `run` promises this of what the reader gave, of the buffer that is printed and of what the writer holds
+// (specs/Input.antt), where a reader or a writer says which bytes those are; that the system's calls delivered the one and took the other no
+// contract can say, and rust/celerycrag/tests/streams.rs looks. Stands on `text`. Renders 01, "The filing program"; docs/FORMAT.md explains it
+// to users.
+#![tactic(auto)]
+
+ghost use Rattle.std.specs.Prelude.{◌≡◌, ◌≤◌, ◌<◌, length, OnOk};
+ghost use Rattle.std.specs.Io.KnownBytes.{Appends};
 ghost use Rattle.lists.specs.Places.{placed};
+ghost use Rattle.text.specs.Meaning.{meaning};
 ghost use Rattle.text.specs.Progress.{Fits, state_of, BufferSizes};
 ghost use Rattle.text.specs.Sound.{SoundState};
 ghost use Rattle.text.specs.Streaming as streaming;
-ghost use Rattle.filing.specs.Input.{Fed, Ended, Printed};
+ghost use Rattle.filing.specs.Input.{Fed, Ended, Printed, WritesMeaning};
 
+use std::fmt::Write as _;
+use std::io::{ErrorKind, Read, Write};
+use std::{fmt, io};
 use text::State;
 
-// What was read: the state of the text, how many bytes of it came, and what the last read answered, 0 at the end of the input.
+// How the reading of an input ended: at its end, after 2^62 bytes, or where a read failed.
+#[derive(Clone, Copy)]
+enum End {
+    Reached,
+    TooLong,
+    Failed(io::Error),
+}
+
+// What was read: the state of the text, how many bytes of it came, and how that ended.
 #[derive(Clone, Copy)]
 struct Input {
     state: State,
     count: usize,
-    last: isize,
+    end: End,
 }
 
-// Reads standard input to its end. A proved loop has to end, so it stops at 2^62 bytes, more than any input has.
-fn read_all(
+// What was read, and whether what it gives was written: `Ok` too where nothing was to be written.
+#[derive(Clone, Copy)]
+struct Ran {
+    input: Input,
+    written: io::Result<()>,
+}
+
+// 65,536 zeros, for what one read brings. That the length stands in a clause of its own lets `main` lend the array without carrying a list of so
+// many zeros through its proof.
+fn chunk_buffer() -> [u8; 65536]
+    ensures { 65536 ≡ length result }
+{
+    [0; 65536]
+}
+
+// Reads an input to its end. A proved loop has to end, so it stops at 2^62 bytes, more than any input has. A read that a signal cuts short counts
+// as one that failed.
+fn read_all<R: Read>(
+    from: &mut R,
     chunk: &mut [u8],
     line: &mut [u8],
     radices: &mut [u8],
@@ -35,23 +68,38 @@ fn read_all(
     requires chunk_nonzero { (0 < length chunk.old) × (length chunk.old ≤ 65536) × (1024 ≤ length line.old) }
     requires buffer_sizes { BufferSizes radices.old weights.old tables.old d.old store.old }
     ensures fits { Fits result.state.stage × (result.state.held ≤ 1024) }
-    ensures fed { Fed (state_of result.state line.new radices.new weights.new tables.new d.new store.new) result.count }
-    ensures ended { Ended result.last result.count }
+    ensures fed { Fed (R.remaining from.old) (R.remaining from.new) (state_of result.state line.new radices.new weights.new tables.new d.new store.new) result.count }
+    ensures ended { Ended (R.remaining from.new) result.end result.count }
 {
     let mut state = text::start();
     let mut count: usize = 0;
-    let mut last: isize = 1;
-    while last > 0 && count < 4611686018427387904 {
-        last = libc::read(libc::STDIN_FILENO, chunk);
-        let n = io::count(last, chunk);
+    while count < 4611686018427387904 {
+        let n = match from.read(chunk) {
+            Ok(0) => return Input {
+                state,
+                count,
+                end: End::Reached,
+            },
+            Ok(n) => n,
+            Err(e) => return Input {
+                state,
+                count,
+                end: End::Failed(e),
+            },
+        };
         state = text::feed(state, &chunk[..n], line, radices, weights, tables, d, store);
         count += n;
     }
-    Input { state, count, last }
+    Input {
+        state,
+        count,
+        end: End::TooLong,
+    }
 }
 
-// Prints what a text that has ended gives: the front of `out`, which it is put into.
-fn print_end(
+// Prints what a text that has ended gives: the front of `out`, which it is put into, is written.
+fn print_end<W: Write>(
+    to: &mut W,
     state: State,
     line: &[u8],
     radices: &[u8],
@@ -61,22 +109,24 @@ fn print_end(
     store: &[u8],
     steps: &mut [u16],
     out: &mut [u8],
-)
+) -> io::Result<()>
     requires fits { Fits state.stage × (state.held ≤ 1024) }
     requires sound_state { SoundState (state_of state line.now radices.now weights.now tables.now d.now store.now) }
     requires in_bounds { 1024 ≤ length line.now }
     requires buffer_sizes { BufferSizes radices.now weights.now tables.now d.now store.now }
     requires in_bounds_2 { (17228 ≤ length steps.old) × (131072 ≤ length out.old) }
-    ensures { out.new ≡ placed out.old 0 (streaming.finish (state_of state line.now radices.now weights.now tables.now d.now store.now)) }
+    ensures out_after { out.new ≡ placed out.old 0 (streaming.finish (state_of state line.now radices.now weights.now tables.now d.now store.now)) }
+    ensures written { OnOk result (Appends (W.contents to.old) (W.contents to.new)
+        (streaming.finish (state_of state line.now radices.now weights.now tables.now d.now store.now))) }
 {
     let end = text::finish(state, line, radices, weights, tables, d, store, steps, out);
-    if !io::write_all(libc::STDOUT_FILENO, &out[..end]) {
-        os::fail(b"standard output");
-    }
+    to.write_all(&out[..end])
 }
 
-// The whole run, over lent buffers. Answers what was read.
-fn run(
+// The whole run, over lent buffers.
+fn run<R: Read, W: Write>(
+    from: &mut R,
+    to: &mut W,
     chunk: &mut [u8],
     line: &mut [u8],
     radices: &mut [u8],
@@ -86,25 +136,80 @@ fn run(
     store: &mut [u8],
     steps: &mut [u16],
     out: &mut [u8],
-) -> Input
+) -> Ran
     requires chunk_nonzero { (0 < length chunk.old) × (length chunk.old ≤ 65536) × (1024 ≤ length line.old) }
     requires buffer_sizes { BufferSizes radices.old weights.old tables.old d.old store.old }
     requires in_bounds { (17228 ≤ length steps.old) × (131072 ≤ length out.old) }
-    ensures { Printed result.count result.last out.old out.new }
+    ensures printed { Printed (R.remaining from.old) (R.remaining from.new) (W.contents to.old) (W.contents to.new)
+        result.input.count result.input.end result.written out.old out.new }
+    ensures known { WritesMeaning (R.remaining from.old) result.input.end result.written (W.contents to.old) (W.contents to.new) }
 {
-    let input = read_all(chunk, line, radices, weights, tables, d, store);
-    let state = input.state;
-    let last = input.last;
-    if last == 0 {
-        print_end(state, line, radices, weights, tables, d, store, steps, out);
+    let input = read_all(from, chunk, line, radices, weights, tables, d, store);
+    let written = if let End::Reached = input.end {
+        print_end(
+            to,
+            input.state,
+            line,
+            radices,
+            weights,
+            tables,
+            d,
+            store,
+            steps,
+            out,
+        )
     } else {
-        os::fail(b"standard input");
-    }
-    input
+        Ok(())
+    };
+    Ran { input, written }
 }
 
-fn main() {
-    let mut chunk = io::large_buffer();
+// The text of an error, of at most 96 bytes.
+#[derive(Drop)]
+struct Reason {
+    bytes: [u8; 96],
+    len: usize,
+}
+
+impl fmt::Write for Reason {
+    fn write_str(&mut self, s: &str) -> fmt::Result {
+        for b in s.as_bytes() {
+            let len = self.len;
+            if len < 96 {
+                self.bytes[len] = *b;
+                self.len = len + 1;
+            }
+        }
+        Ok(())
+    }
+}
+
+// A text without the number in parentheses at its end, and the space before it.
+fn before_number(text: &[u8]) -> &[u8] {
+    match text.iter().rposition(|b| *b == b'(') {
+        Some(at) if at > 0 => &text[..at - 1],
+        _ => text,
+    }
+}
+
+// Writes a line to standard error: which stream failed, a colon and the system's text for why.
+fn fail<W: Write>(to: &mut W, what: &[u8], error: io::Error) {
+    let mut reason = Reason {
+        bytes: [0; 96],
+        len: 0,
+    };
+    let _ = write!(reason, "{error}");
+    let len = reason.len.min(96);
+    let _ = to.write_all(what);
+    let _ = to.write_all(b": ");
+    let _ = to.write_all(before_number(&reason.bytes[..len]));
+    let _ = to.write_all(b"\n");
+}
+
+fn main(rt: HostRuntime) {
+    let mut from = rt.stdin();
+    let mut to = rt.stdout();
+    let mut chunk = chunk_buffer();
     let mut line = text::line_buffer();
     let mut radices = text::radices_buffer();
     let mut weights = text::weights_buffer();
@@ -113,7 +218,9 @@ fn main() {
     let mut store = text::store_buffer();
     let mut steps = text::steps_buffer();
     let mut out = text::output_buffer();
-    run(
+    let ran = run(
+        &mut from,
+        &mut to,
         &mut chunk,
         &mut line,
         &mut radices,
@@ -124,4 +231,17 @@ fn main() {
         &mut steps,
         &mut out,
     );
+    let mut errors = rt.stderr();
+    match ran.input.end {
+        End::Reached => {}
+        End::TooLong => fail(
+            &mut errors,
+            b"standard input",
+            ErrorKind::FileTooLarge.into(),
+        ),
+        End::Failed(error) => fail(&mut errors, b"standard input", error),
+    }
+    if let Err(error) = ran.written {
+        fail(&mut errors, b"standard output", error);
+    }
 }
