@@ -237,7 +237,15 @@ fn run(
 }
 
 // The worst norm.
-fn norm(rt: &impl Print, held: &[usize; 18], radices: &[u8], weights: &[u8], tables: &[u8], d: &[u8], beta: &[u8]) -> io::Result<()> {
+fn norm(
+    rt: &impl Print,
+    held: &[usize; 18],
+    radices: &[u8],
+    weights: &[u8],
+    tables: &[u8],
+    d: &[u8],
+    beta: &[u8],
+) -> io::Result<()> {
     let answer = listing::worst_norm(
         held[0], held[1], held[2], held[3], held[4], radices, weights, tables, d, beta,
     );
@@ -304,7 +312,12 @@ fn changed(out: &[u8], begin: usize) -> usize {
 }
 
 // The text printed into the first bytes of 131,072 nines: the output, and how many bytes behind it have changed. Then the text is empty.
-pub fn print_text(rt: &impl Print, held: &mut [usize; 18], parts: &[[u8; 2048]; 6], room: usize) -> io::Result<()> {
+pub fn print_text(
+    rt: &impl Print,
+    held: &mut [usize; 18],
+    parts: &[[u8; 2048]; 6],
+    room: usize,
+) -> io::Result<()> {
     let mut out = [9u8; 131072];
     let end = text::print_text(front(&parts[0], held[8]), lent(&mut out, room));
     say(rt, "length", end)?;
@@ -492,7 +505,12 @@ pub fn move_store(
 }
 
 // The call 27, whether the plan suits every table; the store is lent as its work store.
-pub fn general(rt: &impl Print, held: &[usize; 18], parts: &[[u8; 2048]; 6], store: &mut [u8]) -> io::Result<()> {
+pub fn general(
+    rt: &impl Print,
+    held: &[usize; 18],
+    parts: &[[u8; 2048]; 6],
+    store: &mut [u8],
+) -> io::Result<()> {
     let work = lent(store, held[15]);
     let answer = general::general(
         held[0],
