@@ -12,14 +12,14 @@ ghost use Rattle.std.specs.Io.{ReadsAtMost};
 ghost use Rattle.std.specs.Io.KnownBytes.{Consumes};
 
 use crate::calls::{general, move_store, print_text, with_program, with_readback, with_store};
-use crate::lines::{byte, find, line_end, numbers, wanted};
 use crate::parts::{append, put, put_steps};
+use crate::reading::{byte, find, line_end, numbers, wanted};
 use std::io;
 use std::io::Read;
 
 mod calls;
-mod lines;
 mod parts;
+mod reading;
 
 // Sets the plan's numbers, or a part.
 fn set(

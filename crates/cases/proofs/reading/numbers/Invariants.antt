@@ -1,6 +1,6 @@
--- `cases::lines::numbers` is safe and ends: the place is at most the length of the line.
+-- `cases::reading::numbers` is safe and ends: the place is at most the length of the line.
 use Rattle.std.proofs.Common.{length, ◌-◌, ◌≤◌}
-use Rattle.cases.proofs.lines.numbers.Given as goal
+use Rattle.cases.proofs.reading.numbers.Given as goal
 
 abbrev pub invariant-loop-j : goal.invariant-loop-j
 invariant-loop-j l = l.j ≤ length l.line
