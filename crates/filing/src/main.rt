@@ -65,7 +65,7 @@ fn read_all<R: Read>(
     d: &mut [u8],
     store: &mut [u8],
 ) -> Input
-    requires chunk_nonzero { (0 < length chunk.old) × (length chunk.old ≤ 65536) × (1024 ≤ length line.old) }
+    requires chunk_and_line { (0 < length chunk.old) × (length chunk.old ≤ 65536) × (1024 ≤ length line.old) }
     requires buffer_sizes { BufferSizes radices.old weights.old tables.old d.old store.old }
     ensures fits { Fits result.state.stage × (result.state.held ≤ 1024) }
     ensures fed { Fed (R.remaining from.old) (R.remaining from.new) (state_of result.state line.new radices.new weights.new tables.new d.new store.new) result.count }
@@ -112,9 +112,9 @@ fn print_end<W: Write>(
 ) -> io::Result<()>
     requires fits { Fits state.stage × (state.held ≤ 1024) }
     requires sound_state { SoundState (state_of state line.now radices.now weights.now tables.now d.now store.now) }
-    requires in_bounds { 1024 ≤ length line.now }
+    requires line_room { 1024 ≤ length line.now }
     requires buffer_sizes { BufferSizes radices.now weights.now tables.now d.now store.now }
-    requires in_bounds_2 { (17228 ≤ length steps.old) × (131072 ≤ length out.old) }
+    requires room { (17228 ≤ length steps.old) × (131072 ≤ length out.old) }
     ensures out_after { out.new ≡ placed out.old 0 (streaming.finish (state_of state line.now radices.now weights.now tables.now d.now store.now)) }
     ensures written { OnOk result (Appends (W.contents to.old) (W.contents to.new)
         (streaming.finish (state_of state line.now radices.now weights.now tables.now d.now store.now))) }
@@ -137,9 +137,9 @@ fn run<R: Read, W: Write>(
     steps: &mut [u16],
     out: &mut [u8],
 ) -> Ran
-    requires chunk_nonzero { (0 < length chunk.old) × (length chunk.old ≤ 65536) × (1024 ≤ length line.old) }
+    requires chunk_and_line { (0 < length chunk.old) × (length chunk.old ≤ 65536) × (1024 ≤ length line.old) }
     requires buffer_sizes { BufferSizes radices.old weights.old tables.old d.old store.old }
-    requires in_bounds { (17228 ≤ length steps.old) × (131072 ≤ length out.old) }
+    requires room { (17228 ≤ length steps.old) × (131072 ≤ length out.old) }
     ensures printed { Printed (R.remaining from.old) (R.remaining from.new) (W.contents to.old) (W.contents to.new)
         result.input.count result.input.end result.written out.old out.new }
     ensures known { WritesMeaning (R.remaining from.old) result.input.end result.written (W.contents to.old) (W.contents to.new) }
