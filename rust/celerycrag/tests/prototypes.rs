@@ -465,16 +465,16 @@ fn wrong_records_are_found() {
 fn what_cannot_be_read_is_refused() {
     // What stands in the text, where it is first, and what is put there.
     let library = [
-        ("#[no_mangle]\npub extern", "pub extern"),
+        ("#[unsafe(no_mangle)]\npub extern", "pub extern"),
         ("pub extern \"C\" fn", "extern \"C\" fn"),
         ("pub extern \"C\" fn", "pub fn"),
         ("pub extern \"C\" fn", "pub unsafe extern \"C\" fn"),
         (
-            "#[no_mangle]",
-            "pub fn celery_helper() -> u8 { 0 }\n#[no_mangle]",
+            "#[unsafe(no_mangle)]",
+            "pub fn celery_helper() -> u8 { 0 }\n#[unsafe(no_mangle)]",
         ),
-        ("#[no_mangle]", "#[inline]\n#[no_mangle]"),
-        ("#[no_mangle]", "type usize = u8;\n#[no_mangle]"),
+        ("#[unsafe(no_mangle)]", "#[inline]\n#[unsafe(no_mangle)]"),
+        ("#[unsafe(no_mangle)]", "type usize = u8;\n#[unsafe(no_mangle)]"),
         ("use records::Record;", "use other::Record;"),
         ("use records::Record;", "use records::Record as Record;"),
         ("fn celery_check(", "fn celery_check<T>("),

@@ -407,10 +407,14 @@ pub fn library(text: &str) -> Result<Reading, Refused> {
                 reader.expect("use records : : Record ;")?;
                 continue;
             }
+            "#" if reader.ahead(1) == "!" => {
+                reader.expect("# ! [ tactic ( auto ) ]")?;
+                continue;
+            }
             _ => {}
         }
         let start = reader.here();
-        reader.expect("# [ no_mangle ] pub extern \"C\" fn")?;
+        reader.expect("# [ unsafe ( no_mangle ) ] pub extern \"C\" fn")?;
         let (name, name_spot) = reader.name()?;
         reader.expect("(")?;
         let (parameters, spots): (Vec<_>, _) =
@@ -419,6 +423,10 @@ pub fn library(text: &str) -> Result<Reading, Refused> {
         let (answer, answer_spot) = reader.rust_word()?;
         while matches!(reader.word(), "requires" | "ensures") {
             reader.at += 1;
+            // One clause of several has a name.
+            if reader.word() != "{" {
+                reader.name()?;
+            }
             reader.group()?;
         }
         reader.group()?;
@@ -623,6 +631,18 @@ impl Record {
     }
 }
 
+/// Passes over the derives of an item, where it has some.
+fn derived(reader: &mut Reader) -> Result<(), Refused> {
+    if reader.ahead(2) == "derive" {
+        reader.expect("# [ derive (")?;
+        while !matches!(reader.word(), ")" | "") {
+            reader.at += 1;
+        }
+        reader.expect(") ]")?;
+    }
+    Ok(())
+}
+
 /// The struct Record of a Rust or Rattle source: the only one of this name there,
 /// public and laid out as in C.
 pub fn record(file: &'static str, text: &str) -> Result<Record, Refused> {
@@ -644,14 +664,10 @@ pub fn record(file: &'static str, text: &str) -> Result<Record, Refused> {
         return reader.refuse("one struct Record");
     };
     reader.at = start;
-    if reader.ahead(2) == "derive" {
-        reader.expect("# [ derive (")?;
-        while !matches!(reader.word(), ")" | "") {
-            reader.at += 1;
-        }
-        reader.expect(") ]")?;
-    }
-    reader.expect("# [ repr ( C ) ] pub struct Record {")?;
+    derived(&mut reader)?;
+    reader.expect("# [ repr ( C ) ]")?;
+    derived(&mut reader)?;
+    reader.expect("pub struct Record {")?;
     let mut fields = Vec::new();
     while !reader.passes("}") {
         let start = reader.here();
