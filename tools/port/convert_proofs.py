@@ -738,7 +738,7 @@ def main():
     names = json.load(open(sys.argv[1]))
     crate = sys.argv[2]
     only = sys.argv[3:]
-    base = os.path.join(os.environ.get("PORT_PROOFS", "/tmp/port-proofs"), crate)
+    base = os.path.join(os.environ["PORT_PROOFS"], crate)
     for key, entry in sorted(names.items()):
         m = re.match(r"Rattle-" + re.escape(crate) + r"-proofs\.(.*)\.Lts$", key)
         if not m:
