@@ -3,7 +3,7 @@
 --     value_of a i old          value i of the answer a; old, as it was, of a refusal
 --     case_of a k none old      the value of the answer a, whose values are the number of a case and what goes with it, where that case is k; none
 --                              where it is another; old, as it was, of a refusal
---     line_after lines old     the line that comes with a refusal; old, as it was, where none does (02, C-15: 13 and 15 have a line)
+--     line_after lines old      the line that comes with a refusal; old, as it was, where none does (02, C-15: 13 and 15 have a line)
 --     length_of k n old         the number n of step numbers that the writer filled, where its refusal k is 0
 use Rattle.std.specs.Prelude.{cond, List, [], ◌∷◌, ℕ, zero, suc, eqb}
 use Rattle.lists.specs.Places.{at}

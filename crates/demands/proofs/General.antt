@@ -1,5 +1,5 @@
 -- 02, C-17: `general` says yes exactly when every table with values below s has coefficients, and else no.
---     general-says      on an accepted plan, and a work store of its length, the answer is yes or no by `is_general`
+--     general-says       on an accepted plan, and a work store of its length, the answer is yes or no by `is_general`
 --     suits-all          if each entry is New with the value 0, every table has coefficients (`Tables`): those of the table modulo p
 --     all_new            if every table has coefficients, each entry is New with the value 0: take the table that is 1 there and else 0
 --     general            the theorem

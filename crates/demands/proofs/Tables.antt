@@ -1,5 +1,5 @@
 -- Whole tables filed in order on an empty store, and which of their entries are New.
---     table_after G f i        the store after the first i entries, each with its value in f; `outcome_at`: what entry i then comes to
+--     table_after G f i         the store after the first i entries, each with its value in f; `outcome_at`: what entry i then comes to
 --     ready                     it is ready for the next
 --     filed-table               where none was a contradiction, its solutions are the lists that satisfy those entries
 --     zeros-kept                with the value 0 none is one: all zeros satisfy every entry

@@ -1,8 +1,8 @@
 -- The 53 numbers of the table are the odd primes up to 251: one test that antt computes over all p up to 251, and a law beyond.
 --     primes              the table
---     member_is          the search of the table succeeds exactly where `odd_prime` holds
+--     member_is           the search of the table succeeds exactly where `odd_prime` holds
 --     is_prime-means      the test of primality is primality by divisors
---     odd_prime-means    `odd_prime` is: a prime, from 3 to 251
+--     odd_prime-means     `odd_prime` is: a prime, from 3 to 251
 --     for-each-prime      a test that is computed for all p up to 251 gives its fact at every prime of the table
 -- Assumes nothing.
 use mathlib.Core.Path.{◌≡◌, refl, sym, ap, ◌∙◌}

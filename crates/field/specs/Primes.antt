@@ -1,7 +1,7 @@
 -- 01, "The plan": "p is an odd prime from 3 to 251." Stands on `every` of `lists`.
 --     Prime p       p is above 1, and no d with 1 < d < p divides it
 --     is_prime p    the same as a test
---     odd_prime p  p is an odd prime from 3 to 251, as a test; `Rattle.field.proofs.PrimeTable.odd_prime-means` says that it is
+--     odd_prime p   p is an odd prime from 3 to 251, as a test; `Rattle.field.proofs.PrimeTable.odd_prime-means` says that it is
 use Rattle.std.specs.Prelude.{◌≡◌, Bool, ◌&&◌, not, ℕ, ◌+◌, ◌-◌, ◌%◌, ◌<◌, eqb, leb, ltb}
 use Rattle.lists.specs.Places.{every}
 

@@ -6,7 +6,7 @@
 --     plus_times g xs ys       xs plus g times ys, place by place, not reduced
 --     remainders p xs          xs modulo p, place by place
 --     Headroom k xs            each place of xs has room for k more in 32 bits
---     all_below p xs            each place of xs is below p, as a test
+--     all_below p xs           each place of xs is below p, as a test
 --     maxima xs ys             the larger of xs and ys, place by place
 use Rattle.std.specs.Prelude.{Bool, List, ℕ, ◌+◌, ◌*◌, ◌%◌, ◌<◌, max, ltb, length}
 use Rattle.lists.specs.Places.{sum, tab, every, at}

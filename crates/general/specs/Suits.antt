@@ -3,7 +3,7 @@
 --     work_after G i             the work store after the first i entries: "files each entry with value 0 on an empty work store"
 --     is_general G               "each was New"
 --     general_causes G work      the causes of the call: 1 2 3 4 5, where 4 is of the work store too
---     answer_of a                 01's number and values for each case of the answer: 1 for yes and 0 for no; the refusal's number
+--     answer_of a                01's number and values for each case of the answer: 1 for yes and 0 for no; the refusal's number
 --     says_new a                 an answer of filing is New: it gives a column
 --     general_answer, general_work   what `general` answers, and the work store it leaves: its old bytes are not tested, it is empty after a call
 --                                that passes cause 5, and a refusal leaves it

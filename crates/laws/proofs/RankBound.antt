@@ -4,7 +4,7 @@
 --     stale-block           where d row b is a sum of multiples of those before, block b has no pivot
 --     fresh-block           else it has at most L less the pivots of the d rows before it
 --     blocks-count          so the first b blocks together have at most r L - r (r - 1) / 2, where r are the pivots of the first b d rows
---     pivots-bound         so all blocks together, with the L columns of the last, have at most `most_new`: the theorem
+--     pivots-bound          so all blocks together, with the L columns of the last, have at most `most_new`: the theorem
 -- Assumes nothing.
 use mathlib.Core.Path.{◌≡◌, refl, sym, ap, ◌∙◌}
 use mathlib.Core.Bool.{true, cond}

@@ -3,7 +3,7 @@
 --     ranked-empty       the empty store, after none
 --     entry-obeys        an entry's row obeys every relation, whatever its value: by Equation 1
 --     ranked-filed       one filing more
---     ranked-most       k is at most `most_new`
+--     ranked-most        k is at most `most_new`
 -- Assumes nothing.
 use mathlib.Core.Path.{◌≡◌, refl, sym, ap, ◌∙◌}
 use mathlib.Core.Bool.{cond}

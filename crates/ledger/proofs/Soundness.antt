@@ -4,7 +4,7 @@
 --     sound-ranged    a sound list is in range
 --     place-below     an entry is listed exactly when its place is in the list
 --     not_listed, is-listed      as the code tells it: its place is the count, or is not
---     read_length    how many pairs there are
+--     read_length     how many pairs there are
 --     value-at        the value of a listed entry stands at its place
 -- Assumes nothing.
 use mathlib.Core.Path.{◌≡◌, refl, sym, ap, ◌∙◌}

@@ -1,11 +1,11 @@
 -- 02, C-18: the calls with records: what each answers and leaves, and the causes it can meet, in the order in which they are tested. Stands on
 -- `Lists`, and on the records of `records`.
 --     Filled, filled             what is handed from call to call: the store, the records and their count; the one of these three
---     pair_of r                   a record's entry and value
+--     pair_of r                  a record's entry and value
 --     listed F                   the first count records, as pairs
 --     list_cause, absent_cause   16, and 17, "when the withdrawn entry isn't listed"
 --     record_own, withdraw_own   each call's own causes, of the listed pairs l: 6 16 7 8 9, and 6 16 7 17
---     lent_own, own_of            its own parts: the store, the work store, so many records and the count; those of F
+--     lent_own, own_of           its own parts: the store, the work store, so many records and the count; those of F
 --     record_causes              filing with records: 1 2 3 4 5 6 16 7 8 9
 --     withdraw_causes            withdrawing: 1 2 3 4 5 6 16 7 17
 --     joined G F i v             what filing leaves: "an accepted entry not yet listed joins its end with its value", and the count is then one more

@@ -2,8 +2,8 @@
 --     Pair                 an entry and its value
 --     has l i              entry i is listed, as a test
 --     distinct l           no entry is listed twice, as a test
---     place_of l i          the place of entry i in the list; the list's length where it is not listed
---     value_of l i          its value; 0 where it is not listed
+--     place_of l i         the place of entry i in the list; the list's length where it is not listed
+--     value_of l i         its value; 0 where it is not listed
 --     without l i          the list without entry i: "the remaining list"
 --     filed_on G S l       the store after the pairs of l, "filed in order" on the store S
 --     pair_causes G S x    what refuses a pair that is filed on S: 7, 8 and 9

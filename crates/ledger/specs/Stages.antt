@@ -5,7 +5,7 @@
 --     ranged n s l           each entry is below n, and each value below s, as a test
 --     unseen marks l         no entry of l is marked, as a test
 --     consistent G S l       no pair is a contradiction when they are filed in order on the store S, as a test
---     is_refused a            an answer is a refusal, as a test
+--     is_refused a           an answer is a refusal, as a test
 --     record_refusal, withdraw_refusal   the call's refusal, by all its causes
 --     answer_sound, store_sound  what filing answers and leaves where the call is admitted
 --     count_after, place_after   the count after filing, and where the entry joins the list; size, which is no place, where it is listed

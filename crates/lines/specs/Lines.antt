@@ -2,10 +2,10 @@
 --     cut_at c bytes        the bytes cut at every c: n cuts make n + 1 pieces; `onto`: a byte put in front of the first piece
 --     is_digit x, all_digits word    a byte is a decimal digit, and all of a word's are, as tests
 --     is_numeral most word  "decimal numbers of 1 to 5 digits, zero as `0` and otherwise no leading zero", as a test, with `most` for 5
---     number word         the number that the digits of a word write; `number_from n word`: after digits that write n
+--     number word           the number that the digits of a word write; `number_from n word`: after digits that write n
 --     all_numerals most words  each word is such a number, as a test
---     asks most n bytes    a line of n such numbers, one space between, of at most 1,024 bytes with its LF, as a test
---     numbers bytes        the numbers of a line
+--     asks most n bytes     a line of n such numbers, one space between, of at most 1,024 bytes with its LF, as a test
+--     numbers bytes         the numbers of a line
 use Rattle.std.specs.Prelude.{Bool, true, cond, not, ◌&&◌, ◌||◌, List, [], ◌∷◌, map, ℕ, ◌+◌, ◌-◌, ◌*◌, eqb, leb, ltb, length}
 use Rattle.lists.specs.Places.{at}
 

@@ -4,8 +4,8 @@
 --     short p w             a weight by its short side: w, or where it counts as w − p the positive p − w, whose square is the same
 --     squares p ws from n   the sum of the squares of n weights of ws, from place `from` on, each by its short side
 --     worst P w d β         the worst norm
---     norm_own β G         the call's own causes, where G is a plan as lent; `norm_causes G β`: all that it can meet, 1 2 3 4 5
---     answer_of a            01's number and values for each case of its answer: the norm, or the refusal's number
+--     norm_own β G          the call's own causes, where G is a plan as lent; `norm_causes G β`: all that it can meet, 1 2 3 4 5
+--     answer_of a           01's number and values for each case of its answer: the norm, or the refusal's number
 --     norm_answer G β       what `worst_norm` answers
 use Rattle.std.specs.Prelude.{Bool, cond, not, List, [], ◌∷◌, ℕ, ◌+◌, ◌-◌, ◌*◌, ◌/◌, max, ltb, length}
 use Rattle.lists.specs.Places.{sum, largest, at}

@@ -1,5 +1,5 @@
 -- Refusals: causes in number order, and what an answer says of its refusal.
---     or_else, Numbered                      the first of two refusals; no cause of a list has the number 0
+--     or_else, Numbered                     the first of two refusals; no cause of a list has the number 0
 --     first-append                          two lists of causes in turn: the first list's refusal, or the second's where it has none
 --     first-refused, first-passed           the same by the first list's refusal
 --     NoneMet, none-met                     where a list refuses nothing, none of its causes is met

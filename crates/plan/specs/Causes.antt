@@ -6,7 +6,7 @@
 --     leaves k new old     what a call leaves in what it is lent: new where its refusal k is 0, and old, as it was at entry, otherwise
 --     Answer               `gives vs`: accepted, 01's number 0 with the values vs; `refuses k`: 01's number k, and no values
 --     answer k vs          the answer of a call by its refusal k and its values vs
---     number_of a           01's number of an answer
+--     number_of a          01's number of an answer
 use Rattle.std.specs.Prelude.{Bool, cond, List, [], ◌∷◌, ℕ, zero, suc}
 
 abbrev pub first : List (ℕ × Bool) → ℕ

@@ -10,7 +10,7 @@
 --     radix_causes p R           those of the radices by themselves, as a text tests them
 --     plan p s n m t             the plan of these numbers
 --     numbers_of P               the plan's five numbers
---     answer_of a                 01's number and values for each case of the constructor's answer: the plan's numbers, or the refusal's
+--     answer_of a                01's number and values for each case of the constructor's answer: the plan's numbers, or the refusal's
 --     checked p s n m t R        what the constructor answers
 --     Within P                   the plan's numbers meet none of causes 1 to 3, limit by limit
 --     Radices P R                the plan's radices: n of them, which meet neither of causes 2 and 3

@@ -8,7 +8,7 @@
 --     row_place P d xs c        place c of the row: block c / L, variable c % L
 --     row G i                   row i, C residues
 --     entry_cause G i           7, "entry not below s^n", with the product of the radices for s^n
---     row_own i G              the call `row`: its own causes; `row_causes G i out`: all that it can meet, 1 2 3 4 5 7
+--     row_own i G               the call `row`: its own causes; `row_causes G i out`: all that it can meet, 1 2 3 4 5 7
 use Rattle.std.specs.Prelude.{Bool, not, cond, List, [], ◌∷◌, ◌++◌, ℕ, zero, suc, ◌+◌, ◌*◌, ◌/◌, ◌%◌, ltb, length, drop}
 use Rattle.lists.specs.Places.{sum, tab, at}
 use Rattle.plan.specs.Numbers.{variables, columns, product}

@@ -8,7 +8,7 @@
 --     run_own steps digits G  the run: its own causes, 11 and 12; `run_causes G steps digits`: all that it can meet, 1 2 3 4 5 11 12
 --     written k P ..          the step slice after the writer: the layout and the rest as it was, or, refusing, all as it was
 --     handed k P ..           what the writer hands back: the layout, or, refusing, nothing
---     answer_of a              01's number and values for each case of the run's answer: y and the number of bootstraps, or the refusal's number
+--     answer_of a             01's number and values for each case of the run's answer: y and the number of bootstraps, or the refusal's number
 --     writer_hands, run_answer     what `write` hands back, and what `run` answers
 use Rattle.std.specs.Prelude.{Bool, not, List, [], ◌∷◌, ℕ, ◌*◌, ltb, length}
 use Rattle.lists.specs.Places.{every, at, placed}

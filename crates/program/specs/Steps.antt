@@ -2,7 +2,7 @@
 -- A step list is a list of numbers, four to a step: kind, to, from, by. Registers are read by number; the run knows no writer. Stands
 -- on `plan`, and on `field` for the two square tables.
 --     last_register P             y, register L+4
---     table_at P T k z             table k at z: link table k, table m or table m+1
+--     table_at P T k z            table k at z: link table k, table m or table m+1
 --     kind_of steps i, to_of steps i, from_of steps i, by_of steps i     the four numbers of step i
 --     good_step P kind to from by  the step meets none of the conditions of cause 11, as a test
 --     well_formed P steps         the list meets none of them, as a test

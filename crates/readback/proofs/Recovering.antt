@@ -1,7 +1,7 @@
 -- What the code of `recovery` reads: rows of coefficients, each of them residues or not.
 --     part-back                     a part of a list that was lent
 --     row_below, row-refuted        a row of residues, and one with a number that is none
---     row_of P steps b               row b of the coefficients; `row_read`: from the step where the code reads it
+--     row_of P steps b              row b of the coefficients; `row_read`: from the step where the code reads it
 --     from_end, step-inner, step-last, row_room     where that step stands
 --     Rows P steps e b found        the first b rows stand in the list e, which is now found, and are residues
 --     rows_none, rows_next, rows-refuted, rows_all      before the first row, one row more, one with a number that is no residue, after the last

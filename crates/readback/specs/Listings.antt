@@ -9,11 +9,11 @@
 --     steps_in text               the numbers of its step lines, which begin with line 4
 --     is_listing P w d text       the text is the listing of the coefficients that stand in its steps, as a test
 --     text_causes P w d text      the causes of a text under a checked plan, 13 and 15
---     listing_own text G         the same of a plan as lent; `listing_causes G text β`: all that the call can meet, 1 2 3 4 5 13 15
---     line_of k text               the line that goes with refusal k: the malformed one with 13, line 1 with 15, and none with another
---     answer_of a                  what each case of the answer is: it gives, or refuses with 01's number; and the line that goes with it, where one does
---     text_answer P w d text     the answer for a checked plan; `listing_answer G text β`: what `read_listing` answers
---     text_left P w d text β     what is left in β for a checked plan; `listing_left G text β`: what `read_listing` leaves there
+--     listing_own text G          the same of a plan as lent; `listing_causes G text β`: all that the call can meet, 1 2 3 4 5 13 15
+--     line_of k text              the line that goes with refusal k: the malformed one with 13, line 1 with 15, and none with another
+--     answer_of a                 what each case of the answer is: it gives, or refuses with 01's number; and the line that goes with it, where one does
+--     text_answer P w d text      the answer for a checked plan; `listing_answer G text β`: what `read_listing` answers
+--     text_left P w d text β      what is left in β for a checked plan; `listing_left G text β`: what `read_listing` leaves there
 --     Listed G text β             β is a list of C residues whose listing is the text
 use Rattle.std.specs.Prelude.{◌≡◌, Bool, cond, not, ◌&&◌, List, [], ◌∷◌, ◌++◌, ℕ, suc, eqb, ltb, length, drop}
 use Rattle.lists.specs.Places.{same}

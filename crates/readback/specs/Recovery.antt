@@ -6,8 +6,8 @@
 --     coefficient_step P b j      the step that adds variable j by its coefficient of row b: behind b products, each of 2L + 12 steps, and in a
 --                                 product behind the clearing of u
 --     recovered P steps           the coefficients that stand in those steps, rows 0 to t of L each
---     is_written P w d steps       they are residues, and written again they give the list, as a test
---     steps_own steps G          the call's own cause, 15; `steps_causes G steps β`: all that it can meet, 1 2 3 4 5 15
+--     is_written P w d steps      they are residues, and written again they give the list, as a test
+--     steps_own steps G           the call's own cause, 15; `steps_causes G steps β`: all that it can meet, 1 2 3 4 5 15
 --     Written G steps β           β is a list of C residues from which the writer gives exactly this list
 use Rattle.std.specs.Prelude.{◌≡◌, Bool, cond, not, ◌&&◌, List, [], ◌∷◌, ℕ, ◌+◌, ◌-◌, ◌*◌, ◌/◌, ltb, length}
 use Rattle.lists.specs.Places.{tab, joined, same}

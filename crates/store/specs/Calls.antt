@@ -9,8 +9,8 @@
 --     conflict_cause G store i v  9, "contradiction"
 --     test_own, file_own, coefficients_own             each call's own causes
 --     test_causes, file_causes, coefficients_causes    all causes of each call: 1 to 5 of the plan and the call's own parts, then its own
---     answer_of a                 01's number and values for each case of filing's answer: the pivot column of `New`, none of `Implied`, the refusal's number
---     values_of o                 the values that an outcome gives
+--     answer_of a                01's number and values for each case of filing's answer: the pivot column of `New`, none of `Implied`, the refusal's number
+--     values_of o                the values that an outcome gives
 --     answered o                 the answer by its outcome o alone, where no cause before 9 is met
 --     column_of a C old          the pivot column that filing gives; C, which is no column, where it gives none; old, as it was, of a refusal
 --     filed G store i v          the store after filing; what it spans is said by `Span`

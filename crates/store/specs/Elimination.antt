@@ -18,7 +18,7 @@
 --     read_off C S q         coefficient q read off: the right-hand side of row q
 --     row_start C q          where column 0 of row q would stand: row q starts q places behind it, with its column q
 --     cells C store          a store's bytes read by row and column: what is not kept is 0
---     flat C S              the bytes of such a reading, `store_size C` of `plan`
+--     flat C S               the bytes of such a reading, `store_size C` of `plan`
 use Rattle.std.specs.Prelude.{◌≡◌, Bool, cond, ◌&&◌, ◌||◌, ◌⊎◌, ◌≢◌, ℕ, zero, suc, ◌+◌, ◌-◌, ◌*◌, ◌%◌, ◌≤◌, ◌<◌, eqb, ltb, List}
 use Rattle.lists.specs.Places.{sum, tab, joined, every, at}
 use Rattle.field.specs.Residues.{inverse}

@@ -4,7 +4,7 @@
 -- on: C-16 keeps no more of it; how the rows of a store in the layout before that are taken is in `moves`. Stands on the row operations of `field`.
 --     State                      what is known of the rows taken: whether each was sound, and for each column from the next row's own on the largest
 --                                byte in it
---     state_of sound tops         the state as the code keeps it, with the columns in a lent slice
+--     state_of sound tops        the state as the code keeps it, with the columns in a lent slice
 --     begun C                    before the first row
 --     row_sound p above row      a row is all zero, with residues above its diagonal, or has a 1 on the diagonal and nothing above. `above` is the
 --                                largest byte above
@@ -13,7 +13,7 @@
 --     took p s row               the state that comes out when s goes in with a row
 --     state_after p C rows q     the state after the first q of the rows
 --     is_damaged p s             after the last row: a row was not sound, or a right-hand side is no residue
---     row_of C store q            row q of a store, from its diagonal on
+--     row_of C store q           row q of a store, from its diagonal on
 use Rattle.std.specs.Prelude.{Bool, true, cond, not, ◌&&◌, List, ℕ, zero, suc, ◌+◌, ◌-◌, eqb, ltb, take, drop}
 use Rattle.lists.specs.Places.{tab, at}
 use Rattle.field.specs.Rows.{all_below, maxima}

@@ -8,8 +8,8 @@
 --     standing_of G store i    how entry i stands
 --     Gives G store i v        "all coefficients reproducing the store give that residue there"
 --     settle_own, settle_causes  the call's own causes, and all of them: 1 2 3 4 5 6 7
---     answer_of a               02's values for each case of the answer: 0 and the residue of `Forced`, 1 and the column of `Free`; the refusal's number
---     values_of o               the values that a standing gives
+--     answer_of a              02's values for each case of the answer: 0 and the residue of `Forced`, 1 and the column of `Free`; the refusal's number
+--     values_of o              the values that a standing gives
 --     settle_answer            what `settle` answers
 --     Settles G store i        what the answer says: of the coefficients that reproduce the store, and of filing the entry
 use Rattle.std.specs.Prelude.{◌≡◌, Bool, cond, ◌↔◌, ◌≢◌, List, [], ◌∷◌, ℕ, ◌+◌, ◌-◌, ◌*◌, ◌%◌, ◌<◌, ltb, length}

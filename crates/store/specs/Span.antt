@@ -4,7 +4,7 @@
 -- `Calls`.
 --     Combined p C A n e         the equation e is a sum of multiples of the first n rows of A, row q taken `by` q times
 --     SameSpan p C A a B b       each of the first a rows of A is a sum of multiples of the first b rows of B, and the other way round
---     with_row C S e              the C rows of S, and e as the row after them
+--     with_row C S e             the C rows of S, and e as the row after them
 --     Spans G S i v S'           S' is in reduced form, and its rows span the same equations as the old store S and the entry i with value v
 --     OneReduced G S i v         the store after filing is the one that does
 use Rattle.std.specs.Prelude.{◌≡◌, cond, List, ℕ, ◌+◌, ◌*◌, ◌%◌, ◌≤◌, ◌<◌, ltb, length}
