@@ -20,29 +20,25 @@ returns-then-most_new-n c =
     let lent : Given =
     (let a = c.args in
     lend a.plan a.radices.now a.weights.now a.tables.now a.d.now) in
-    let s = c in
-    too_many lent s.requires.within s.requires.lent (omega (arith, c.entries-n.ensures, c.most_new.ensures))
+    too_many lent c.requires.within c.requires.lent (omega (arith, c.entries-n.ensures, c.most_new.ensures))
 
 pub loop-i-init : goal.loop-i-init
 loop-i-init c =
     let lent : Given =
     (let a = c.args in
     lend a.plan a.radices.now a.weights.now a.tables.now a.d.now) in
-    let s = c in
-    going-none lent s.requires.within s.requires.lent _ s.requires.work_value
+    going-none lent c.requires.within c.requires.lent _ c.requires.work_value
 
 pub file_entry-filed-requires : goal.file_entry-filed-requires
 file_entry-filed-requires c =
     let lent : Given =
     (let a = c.args in
     lend a.plan a.radices.now a.weights.now a.tables.now a.d.now) in
-    let turn = c in
-    let s = c in
-    let r = going-ranked lent s.requires.within s.requires.lent _ _ turn.loop-i.invariant in record {
-      within = s.requires.within;
-      lent = s.requires.lent;
+    let r = going-ranked lent c.requires.within c.requires.lent _ _ c.loop-i.invariant in record {
+      within = c.requires.within;
+      lent = c.requires.lent;
       ready = r.ready;
-      value_lt_p = omega (arith, prime-low s.requires.within);
+      value_lt_p = omega (arith, prime-low c.requires.within);
     }
 
 pub returns-then-not-is_new : goal.returns-then-not-is_new
@@ -54,17 +50,14 @@ returns-then-not-is_new c =
     (omega (arith, c.entries-n.ensures)) in
     let filed = c in
     let turn = filed in
-    let s = c in
-    going-not lent s.requires.within s.requires.lent _ _ turn.loop-i.invariant near _ filed.file_entry-filed.ensures.result_value
+    going-not lent c.requires.within c.requires.lent _ _ turn.loop-i.invariant near _ filed.file_entry-filed.ensures.result_value
     (sym c.is_new.ensures ∙ not-true _ (ap not c.if-not-is_new.true))
 
 pub overflow_add-i : goal.overflow_add-i
 overflow_add-i c =
     let near : c.loop-i.i < product c.args.radices.now =
     (omega (arith, c.entries-n.ensures)) in
-    let turn = c in
-    let s = c in
-    omega (arith, near, s.requires.lent.radices.limit)
+    omega (arith, near, c.requires.lent.radices.limit)
 
 pub loop-i-smaller : goal.loop-i-smaller
 loop-i-smaller c = omega arith
@@ -78,8 +71,7 @@ loop-i-preserved c =
     (omega (arith, c.entries-n.ensures)) in
     let filed = c in
     let turn = filed in
-    let s = c in
-    going_next lent s.requires.within s.requires.lent _ _ turn.loop-i.invariant near _ filed.file_entry-filed.ensures.result_value
+    going_next lent c.requires.within c.requires.lent _ _ turn.loop-i.invariant near _ filed.file_entry-filed.ensures.result_value
     (sym c.is_new.ensures ∙ not-false _ (ap not c.if-not-is_new.false)) _ filed.file_entry-filed.ensures.store_after
 
 pub returns : goal.returns
@@ -87,5 +79,4 @@ returns c =
     let lent : Given =
     (let a = c.args in
     lend a.plan a.radices.now a.weights.now a.tables.now a.d.now) in
-    let s = c in
-    going-all lent s.requires.within s.requires.lent _ _ c.loop-i.invariant (omega (arith, c.entries-n.ensures))
+    going-all lent c.requires.within c.requires.lent _ _ c.loop-i.invariant (omega (arith, c.entries-n.ensures))

@@ -31,7 +31,6 @@ all_new-suits-requires c =
     (admission _ _ (sym c.admit.ensures ∙ ap answer_of c.in-Accepted.is)) in
     let fits : length c.args.work.now ≡ store_size (columns c.in-Accepted.plan) =
     (eqb-true _ _ admitted.own-fits) in
-    let r = c in
     let a = admitted in record {
       within = a.within;
       lent = a.lent;
@@ -49,16 +48,14 @@ returns-then-suits c =
     (eqb-true _ _ admitted.own-fits) in
     let told : let said = c.all_new-suits.result in
     let out = c.clear-in-Accepted.new.xs in
-    let s = c in
-    length out ≡ length s.args.work.now
-    → (gives (cond said 1 0 ∷ []) ≡ general_answer lent s.args.work.now) × (out ≡ general_work lent s.args.work.now) =
-    (λ long. let r = c in
-    let a = admitted in
+    length out ≡ length c.args.work.now
+    → (gives (cond said 1 0 ∷ []) ≡ general_answer lent c.args.work.now) × (out ≡ general_work lent c.args.work.now) =
+    (λ long. let a = admitted in
     let args = c.args in
     let tested = c.all_new-suits in
     suited-call _ _ _ tested.result _ _
     (ap (λ (P : Plan). lend P args.radices.now args.weights.now args.tables.now args.d.now) a.same) (a.rest _)
-    tested.ensures (cleared-work r.in-Accepted.plan (length tested.new.work) _ args.work.now c.clear-in-Accepted.ensures long fits)) in
+    tested.ensures (cleared-work c.in-Accepted.plan (length tested.new.work) _ args.work.now c.clear-in-Accepted.ensures long fits)) in
     clauses (rw c.if-suits.true at (told (omega arith)))
 
 pub returns-in-Refused : goal.returns-in-Refused
@@ -77,14 +74,12 @@ returns-else-suits c =
     (eqb-true _ _ admitted.own-fits) in
     let told : let said = c.all_new-suits.result in
     let out = c.clear-in-Accepted.new.xs in
-    let s = c in
-    length out ≡ length s.args.work.now
-    → (gives (cond said 1 0 ∷ []) ≡ general_answer lent s.args.work.now) × (out ≡ general_work lent s.args.work.now) =
-    (λ long. let r = c in
-    let a = admitted in
+    length out ≡ length c.args.work.now
+    → (gives (cond said 1 0 ∷ []) ≡ general_answer lent c.args.work.now) × (out ≡ general_work lent c.args.work.now) =
+    (λ long. let a = admitted in
     let args = c.args in
     let tested = c.all_new-suits in
     suited-call _ _ _ tested.result _ _
     (ap (λ (P : Plan). lend P args.radices.now args.weights.now args.tables.now args.d.now) a.same) (a.rest _)
-    tested.ensures (cleared-work r.in-Accepted.plan (length tested.new.work) _ args.work.now c.clear-in-Accepted.ensures long fits)) in
+    tested.ensures (cleared-work c.in-Accepted.plan (length tested.new.work) _ args.work.now c.clear-in-Accepted.ensures long fits)) in
     clauses (rw c.if-suits.false at (told (omega arith)))

@@ -13,10 +13,9 @@ term-small : (c : goal.After-shared_slice_known-1) →
     args.g * at args.ys.now loop.j ≤ 255 * 255
 term-small c =
     let loop = c.loop-j in
-    let s = c.before.before.before.before.before in
     let j = loop.j in
-    let a : s.args.g ≤ 255 = omega arith in
-    let b : at s.args.ys.now j ≤ 255 = omega (arith, c.type_inv.ys j) in
+    let a : c.args.g ≤ 255 = omega arith in
+    let b : at c.args.ys.now j ≤ 255 = omega (arith, c.type_inv.ys j) in
     mul-le-mul a b
 
 pub returns-then-g-eq0 : goal.returns-then-g-eq0

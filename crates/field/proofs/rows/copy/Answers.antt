@@ -31,6 +31,5 @@ loop-j-preserved c =
 pub returns : goal.returns
 returns c =
     let loop = c.loop-j in
-    let start = c.before.before in
     written_all loop.invariant (omega (arith, loop.invariant.same))
-    ∙ sym (is-tab start.args.xs.now (length start.args.out.now) (at start.args.xs.now) 0 start.requires (λ i l. refl))
+    ∙ sym (is-tab c.args.xs.now (length c.args.out.now) (at c.args.xs.now) 0 c.requires (λ i l. refl))

@@ -13,10 +13,9 @@ term-small : (c : goal.After-shared_slice_known-in-loop-j-1) →
     get_or args.ws.now loop.j 0 * get_or args.xs.now loop.j 0 ≤ 255 * 255
 term-small c =
     let loop = c.loop-j in
-    let s = c.before.before.before.before in
     let j = loop.j in
-    let a : get_or s.args.ws.now j 0 ≤ 255 = omega (arith, c.type_inv.ws j) in
-    let b : get_or s.args.xs.now j 0 ≤ 255 = omega (arith, c.type_inv.xs j) in
+    let a : get_or c.args.ws.now j 0 ≤ 255 = omega (arith, c.type_inv.ws j) in
+    let b : get_or c.args.xs.now j 0 ≤ 255 = omega (arith, c.type_inv.xs j) in
     mul-le-mul a b
 
 pub loop-j-init : goal.loop-j-init

@@ -29,11 +29,9 @@ loop-j-smaller c = omega arith
 
 pub loop-j-preserved : goal.loop-j-preserved
 loop-j-preserved c =
-    let turn = c.before.before.before.before in
-    let start = turn.before.before.before in
-    let j = turn.loop-j.j in
-    let here = unwritten turn.loop-j.invariant j (le_refl j) in
-    written_next c.larger.result turn.loop-j.invariant (omega arith) (c.larger.ensures ∙ ap (λ (x : ℕ). max x (at start.args.xs.now j)) here)
+    let j = c.loop-j.j in
+    let here = unwritten c.loop-j.invariant j (le_refl j) in
+    written_next c.larger.result c.loop-j.invariant (omega arith) (c.larger.ensures ∙ ap (λ (x : ℕ). max x (at c.args.xs.now j)) here)
 
 pub returns : goal.returns
 returns c = written_all c.loop-j.invariant (omega arith)

@@ -22,8 +22,7 @@ raise-requires c = simp length-take (omega arith)
 
 pub loop-j-init : goal.loop-j-init
 loop-j-init c =
-    let start = c.before.before.before.before.before.before.before in
-    let front = raised-front _ start.args.xs.now start.args.tops.now _ (mod-le _ 4) c.raise.ensures in
+    let front = raised-front _ c.args.xs.now c.args.tops.now _ (mod-le _ 4) c.raise.ensures in
     raising-none front.within front.same (omega arith)
 
 pub overflow_sub-n : goal.overflow_sub-n
@@ -145,7 +144,6 @@ returns c =
     let loop3 = c.loop-j-3 in
     let loop2 = c.loop-j-2 in
     let loop = c.loop-j in
-    let start = c.before.before.before.before.before.before.before.before.before.before.before.before.before in
-    let tops = start.args.tops.now in
-    let front = raised-front _ start.args.xs.now tops _ (mod-le _ 4) c.raise.ensures in
+    let tops = c.args.tops.now in
+    let front = raised-front _ c.args.xs.now tops _ (mod-le _ 4) c.raise.ensures in
     written_all (loop3.invariant.raised tops (loop2.invariant.raised tops (loop.invariant.raised tops front))) (omega arith)

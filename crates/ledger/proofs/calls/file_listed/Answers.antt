@@ -36,7 +36,6 @@ file_sound-filed-requires c =
     let parts : let a = c.args in
     Parts c.in-Accepted.plan a.radices.now (length a.store.now) (length a.work.now) a.size a.count.now =
     (parts-of _ _ _ _ _ _ admitted.own-fits) in
-    let q = c in
     let a = admitted in
     let s = c in
     let r = a.lent.radices.limit in record {
@@ -92,8 +91,7 @@ columns-requires c =
     let lent : Given =
     (let a = c.args in
     given a.p a.s a.n a.m a.t a.radices.now a.weights.now a.tables.now a.d.now) in
-    let admitted : let s = c in
-    let a = s.args in
+    let admitted : let a = c.args in
     Admitted lent (lent_own a.store.now a.work.now a.size a.count.now) c.in-Accepted.plan =
     (admission _ _ (sym c.admit.ensures ∙ ap answer_of c.in-Accepted.is)) in
     admitted.within
@@ -143,10 +141,8 @@ returns-in-Refused c =
     let lent : Given =
     (let a = c.args in
     given a.p a.s a.n a.m a.t a.radices.now a.weights.now a.tables.now a.d.now) in
-    let r = c in
-    let s = c in
-    let a = s.args in
-    let away = turned-away lent (lent_own a.store.now a.work.now a.size a.count.now) (sym r.admit.ensures ∙ ap answer_of c.in-Refused.is) in
+    let a = c.args in
+    let away = turned-away lent (lent_own a.store.now a.work.now a.size a.count.now) (sym c.admit.ensures ∙ ap answer_of c.in-Refused.is) in
     let own = away (record_own a.store.now (pairs a.count.now a.list.now) a.entry a.value) in
     let none = away (λ _. []) in
     refused-filing lent a.store.now a.work.now a.list.now a.size a.count.now a.entry a.value a.column.now a.store.now a.work.now
@@ -191,7 +187,6 @@ returns-in-Refused-filed c =
     (λ long. let a = c.args in
     cleared-work c.in-Accepted.plan (length c.file_sound-filed.new.work) _ a.work.now c.clear-in-Accepted.ensures long parts.work
     ∙ ap₂ (λ (k : ℕ) (K : Given). leaves k (empty_store K.numbers) a.work.now) (sym (admitted.rest (λ _. []))) (sym same)) in
-    let r = c in
     let s = c in
     let a = s.args in
     let k = answer-refuses refusal _ _ (answered ∙ ap stores.answer_of c.in-Refused-filed.is) in
@@ -236,7 +231,6 @@ returns-in-New c =
     (λ long. let a = c.args in
     cleared-work c.in-Accepted.plan (length c.file_sound-filed.new.work) _ a.work.now c.clear-in-Accepted.ensures long parts.work
     ∙ ap₂ (λ (k : ℕ) (K : Given). leaves k (empty_store K.numbers) a.work.now) (sym (admitted.rest (λ _. []))) (sym same)) in
-    let r = c in
     let s = c in
     let a = s.args in
     kept-filing lent a.store.now a.work.now a.list.now a.size a.count.now a.entry a.value a.column.now _ _ stored (worked (omega arith))
@@ -280,7 +274,6 @@ returns-in-Implied c =
     (λ long. let a = c.args in
     cleared-work c.in-Accepted.plan (length c.file_sound-filed.new.work) _ a.work.now c.clear-in-Accepted.ensures long parts.work
     ∙ ap₂ (λ (k : ℕ) (K : Given). leaves k (empty_store K.numbers) a.work.now) (sym (admitted.rest (λ _. []))) (sym same)) in
-    let r = c in
     let s = c in
     let a = s.args in
     kept-filing lent a.store.now a.work.now a.list.now a.size a.count.now a.entry a.value a.column.now _ _ stored (worked (omega arith))

@@ -23,11 +23,10 @@ clauses all = record { r_value = all.0; store_after = all.1 }
 
 pub is_reduced-requires : goal.is_reduced-requires
 is_reduced-requires c =
-    let s = c in
     let e = c.columns.ensures in record {
-      c_bound = columns-small _ s.requires.within e;
-      modulus = modulus s.requires.within;
-      store_len = s.requires.store_len ∙ ap store_size (sym e);
+      c_bound = columns-small _ c.requires.within e;
+      modulus = modulus c.requires.within;
+      store_len = c.requires.store_len ∙ ap store_size (sym e);
     }
 
 pub returns-then-not-is_reduced : goal.returns-then-not-is_reduced
@@ -48,11 +47,11 @@ returns-then-not-is_reduced c =
 
 pub is_sound-requires : goal.is_sound-requires
 is_sound-requires c =
-    let s = c in record {
-      within = s.requires.within;
-      lent = s.requires.lent;
-      count_in_bounds = s.requires.count_in_bounds;
-      work_value = s.requires.work_value;
+    record {
+      within = c.requires.within;
+      lent = c.requires.lent;
+      count_in_bounds = c.requires.count_in_bounds;
+      work_value = c.requires.work_value;
     }
 
 pub returns-then-not-is_sound : goal.returns-then-not-is_sound
@@ -90,10 +89,8 @@ returns-then-entries-entry c =
     let passing : let a = c.args in
     is_reduced a.plan.p (columns a.plan) (cells (columns a.plan) a.store.now) ≡ true =
     (sym reduced ∙ not-false c.is_reduced.result (ap not c.if-not-is_reduced.false)) in
-    let listed : let s = c in
-    sound lent s.args.store.now list ≡ true =
+    let listed : sound lent c.args.store.now list ≡ true =
     (sym c.is_sound.ensures ∙ not-false _ (ap not c.if-not-is_sound.false)) in
-    let l = c in
     let far = rw c.entries.ensures at c.if-entries-entry.true in
     clauses (refused-call refusal 7 _ _ _ (sym (rw (passing, listed, le-ltb _ _ far))) (omega arith))
 
@@ -113,8 +110,7 @@ returns-then-plan-value c =
     let passing : let a = c.args in
     is_reduced a.plan.p (columns a.plan) (cells (columns a.plan) a.store.now) ≡ true =
     (sym reduced ∙ not-false c.is_reduced.result (ap not c.if-not-is_reduced.false)) in
-    let listed : let s = c in
-    sound lent s.args.store.now list ≡ true =
+    let listed : sound lent c.args.store.now list ≡ true =
     (sym c.is_sound.ensures ∙ not-false _ (ap not c.if-not-is_sound.false)) in
     let near : let a = c.args in
     a.entry < product a.radices.now =
@@ -135,11 +131,11 @@ file_entry-requires c =
     (sym reduced ∙ not-false c.is_reduced.result (ap not c.if-not-is_reduced.false)) in
     let n = c in
     let e = n in
-    let s = c in record {
-      within = s.requires.within;
-      lent = s.requires.lent;
-      ready = ready_of _ _ s.requires.within s.requires.store_len passing;
-      value_lt_p = omega (arith, s.requires.within.value-high);
+    record {
+      within = c.requires.within;
+      lent = c.requires.lent;
+      ready = ready_of _ _ c.requires.within c.requires.store_len passing;
+      value_lt_p = omega (arith, c.requires.within.value-high);
     }
 
 pub returns : goal.returns

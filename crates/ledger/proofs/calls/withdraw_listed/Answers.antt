@@ -43,7 +43,6 @@ withdraw_sound-taken-requires c =
     let parts : let a = c.args in
     Parts c.in-Accepted.plan a.radices.now (length a.store.now) (length a.work.now) a.size a.count.now =
     (parts-of _ _ _ _ _ _ admitted.own-fits) in
-    let q = c in
     let a = admitted in
     let s = c in
     let r = a.lent.radices.limit in record {
@@ -252,10 +251,8 @@ returns-in-Refused c =
     let refusal : ℕ =
     (let a = c.args in
     withdraw_refusal lent a.store.now a.work.now a.list.now a.size a.count.now a.entry) in
-    let r = c in
-    let s = c in
-    let a = s.args in
-    let away = turned-away lent (lent_own a.store.now a.work.now a.size a.count.now) (sym r.admit.ensures ∙ ap answer_of c.in-Refused.is) in
+    let a = c.args in
+    let away = turned-away lent (lent_own a.store.now a.work.now a.size a.count.now) (sym c.admit.ensures ∙ ap answer_of c.in-Refused.is) in
     let own = away (withdraw_own a.store.now (pairs a.count.now a.list.now) a.entry) in
     let none = away (λ _. []) in
     let t = refused-taking refusal _ (pairs a.count.now a.list.now) a.count.now a.entry _ a.store.now own.0 own.1 in
@@ -315,7 +312,6 @@ returns-then-taken-eq0 c =
       near = omega (arith, facts.1, (place-below l a.entry).0 there, read_length a.count.now 0 a.list.now);
       few = omega (arith, p.few, p.records, q.lent.radices.limit);
     }) in
-    let r = c in
     let s = c in
     let a = s.args in
     let m = made c.if-taken-eq0.true in
@@ -361,7 +357,6 @@ returns-else-taken-eq0 c =
     (λ long. let a = c.args in
     cleared-work c.in-Accepted.plan (length c.withdraw_sound-taken.new.work) _ a.work.now c.clear-in-Accepted.ensures long parts.work
     ∙ ap₂ (λ (k : ℕ) (K : Given). leaves k (empty_store K.numbers) a.work.now) (sym (admitted.rest (λ _. []))) (sym same)) in
-    let r = c in
     let s = c in
     let a = s.args in
     let number = ap (λ (t : Taken). t.number) taken in

@@ -27,11 +27,10 @@ clauses all = record { r_value = all.0; store_after = all.1 }
 
 pub is_reduced-requires : goal.is_reduced-requires
 is_reduced-requires c =
-    let s = c in
     let e = c.columns.ensures in record {
-      c_bound = columns-small _ s.requires.within e;
-      modulus = modulus s.requires.within;
-      store_len = s.requires.store_len ∙ ap store_size (sym e);
+      c_bound = columns-small _ c.requires.within e;
+      modulus = modulus c.requires.within;
+      store_len = c.requires.store_len ∙ ap store_size (sym e);
     }
 
 pub returns-then-not-is_reduced : goal.returns-then-not-is_reduced
@@ -52,11 +51,11 @@ returns-then-not-is_reduced c =
 
 pub is_sound-requires : goal.is_sound-requires
 is_sound-requires c =
-    let s = c in record {
-      within = s.requires.within;
-      lent = s.requires.lent;
-      count_in_bounds = s.requires.count_in_bounds;
-      work_value = s.requires.work_value;
+    record {
+      within = c.requires.within;
+      lent = c.requires.lent;
+      count_in_bounds = c.requires.count_in_bounds;
+      work_value = c.requires.work_value;
     }
 
 pub returns-then-not-is_sound : goal.returns-then-not-is_sound
@@ -75,7 +74,6 @@ returns-then-not-is_sound c =
     let passing : let a = c.args in
     is_reduced a.plan.p (columns a.plan) (cells (columns a.plan) a.store.now) ≡ true =
     (sym reduced ∙ not-false c.is_reduced.result (ap not c.if-not-is_reduced.false)) in
-    let e = c in
     let unsound = sym c.is_sound.ensures ∙ not-true _ (ap not c.if-not-is_sound.true) in
     clauses (refused-taking refusal 16 _ _ _ _ _ (sym (rw (passing, unsound))) (omega arith))
 
@@ -95,8 +93,7 @@ returns-then-entries-entry c =
     let passing : let a = c.args in
     is_reduced a.plan.p (columns a.plan) (cells (columns a.plan) a.store.now) ≡ true =
     (sym reduced ∙ not-false c.is_reduced.result (ap not c.if-not-is_reduced.false)) in
-    let listed : let s = c in
-    sound lent s.args.store.now list ≡ true =
+    let listed : sound lent c.args.store.now list ≡ true =
     (sym c.is_sound.ensures ∙ not-false _ (ap not c.if-not-is_sound.false)) in
     let l = c in
     let e = l in

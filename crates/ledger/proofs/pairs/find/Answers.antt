@@ -21,11 +21,10 @@ bounds-list-k c = omega arith
 
 pub returns-then-list-k : goal.returns-then-list-k
 returns-then-list-k c =
-    let r = c.before.before.before in
-    let a = r.args in
-    place_found _ (rest a.count (r.loop-k.k + 1) a.list.now) a.entry r.loop-k.k c.if-list-k.true
-    ∙ ap (λ (l : List Pair). r.loop-k.k + place_of l a.entry) (sym (rest-next a.count r.loop-k.k a.list.now (omega arith)))
-    ∙ sym r.loop-k.invariant.1
+    let a = c.args in
+    place_found _ (rest a.count (c.loop-k.k + 1) a.list.now) a.entry c.loop-k.k c.if-list-k.true
+    ∙ ap (λ (l : List Pair). c.loop-k.k + place_of l a.entry) (sym (rest-next a.count c.loop-k.k a.list.now (omega arith)))
+    ∙ sym c.loop-k.invariant.1
 
 pub overflow_add-k : goal.overflow_add-k
 overflow_add-k c = omega arith
@@ -35,20 +34,18 @@ loop-k-smaller c = omega arith
 
 pub loop-k-preserved : goal.loop-k-preserved
 loop-k-preserved c =
-    let r = c.before.before.before in
-    let a = r.args in (
+    let a = c.args in (
       omega arith,
-      r.loop-k.invariant.1
-          ∙ ap (λ (l : List Pair). r.loop-k.k + place_of l a.entry) (rest-next a.count r.loop-k.k a.list.now (omega arith))
-          ∙ place-next _ (rest a.count (r.loop-k.k + 1) a.list.now) a.entry r.loop-k.k c.if-list-k.false,
+      c.loop-k.invariant.1
+          ∙ ap (λ (l : List Pair). c.loop-k.k + place_of l a.entry) (rest-next a.count c.loop-k.k a.list.now (omega arith))
+          ∙ place-next _ (rest a.count (c.loop-k.k + 1) a.list.now) a.entry c.loop-k.k c.if-list-k.false,
     )
 
 pub returns : goal.returns
 returns c =
-    let r = c.before in
-    let a = r.args in
-    let all : a.count ≡ r.loop-k.k = omega arith in
+    let a = c.args in
+    let all : a.count ≡ c.loop-k.k = omega arith in
     all
-    ∙ place_none a.entry r.loop-k.k
-    ∙ ap (λ (l : List Pair). r.loop-k.k + place_of l a.entry) (sym (rest-none a.count r.loop-k.k a.list.now (omega arith)))
-    ∙ sym r.loop-k.invariant.1
+    ∙ place_none a.entry c.loop-k.k
+    ∙ ap (λ (l : List Pair). c.loop-k.k + place_of l a.entry) (sym (rest-none a.count c.loop-k.k a.list.now (omega arith)))
+    ∙ sym c.loop-k.invariant.1

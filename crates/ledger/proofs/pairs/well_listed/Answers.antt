@@ -43,7 +43,6 @@ returns-then-n-entry c =
     well a.n a.s loop.seen ((at a.list.now (2 * loop.k), at a.list.now (2 * loop.k + 1)) ∷ rest a.count (loop.k + 1) a.list.now) ≡ false
     → false ≡ (ranged a.n a.s (pairs a.count a.list.now) && distinct (pairs a.count a.list.now)) =
     (λ h. sym (c.loop-k.invariant.3 ∙ next ∙ h)) in
-    let r = c in
     told (well-high _ _ _ _ _ c.if-n-entry.true)
 
 pub overflow_mul-k : goal.overflow_mul-k
@@ -72,7 +71,6 @@ returns-then-s-list c =
     well a.n a.s loop.seen ((at a.list.now (2 * loop.k), at a.list.now (2 * loop.k + 1)) ∷ rest a.count (loop.k + 1) a.list.now) ≡ false
     → false ≡ (ranged a.n a.s (pairs a.count a.list.now) && distinct (pairs a.count a.list.now)) =
     (λ h. sym (c.loop-k.invariant.3 ∙ next ∙ h)) in
-    let r = c in
     told (well-value _ _ _ _ _ c.if-n-entry.false c.if-s-list.true)
 
 pub bounds-seen-entry : goal.bounds-seen-entry
@@ -92,7 +90,6 @@ returns-then-seen-entry-ne0 c =
     well a.n a.s loop.seen ((at a.list.now (2 * loop.k), at a.list.now (2 * loop.k + 1)) ∷ rest a.count (loop.k + 1) a.list.now) ≡ false
     → false ≡ (ranged a.n a.s (pairs a.count a.list.now) && distinct (pairs a.count a.list.now)) =
     (λ h. sym (c.loop-k.invariant.3 ∙ next ∙ h)) in
-    let r = c in
     told (well-marked _ _ _ _ _ c.if-seen-entry-ne0.true)
 
 pub bounds-seen-entry-in-loop-k : goal.bounds-seen-entry-in-loop-k
@@ -113,9 +110,8 @@ loop-k-preserved c =
     (let a = c.args in
     let loop = c.loop-k in
     ap (well a.n a.s loop.seen) (rest-next a.count loop.k a.list.now (omega arith))) in
-    let r = c in
-    let a = r.args in
-    let loop = r.loop-k in (
+    let a = c.args in
+    let loop = c.loop-k in (
       omega arith,
       rw length-set loop.invariant.1,
       rw length-set loop.invariant.2,

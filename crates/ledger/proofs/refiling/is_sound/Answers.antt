@@ -19,9 +19,9 @@ use Rattle.ledger.proofs.refiling.is_sound.Goals as goal
 
 pub well_listed-requires : goal.well_listed-requires
 well_listed-requires c =
-    let s = c in record {
-      count_in_bounds = s.requires.count_in_bounds;
-      n_in_bounds = omega (arith, c.entries-n.ensures, s.requires.lent.radices.limit);
+    record {
+      count_in_bounds = c.requires.count_in_bounds;
+      n_in_bounds = omega (arith, c.entries-n.ensures, c.requires.lent.radices.limit);
       seen_value = refl;
     }
 
@@ -77,7 +77,6 @@ returns-then-not-refile c =
     (let s = c in
     ap (without list) c.entries-n.ensures
     ∙ none-skipped (product s.args.radices.now) s.args.plan.s list (both_true (ranged (product s.args.radices.now) s.args.plan.s list) (distinct list) passed).0) in
-    let e = c in
     let s = c in
     let G = lent in
     let E = empty_store s.args.plan in

@@ -25,12 +25,11 @@ loop-k-init c =
     let lent : Given =
     (let a = c.args in
     lend a.plan a.radices.now a.weights.now a.tables.now a.d.now) in
-    let s = c in
-    let a = s.args in (
+    let a = c.args in (
       omega arith,
-      rw s.requires.store_value
+      rw c.requires.store_value
           (subst (Refiling lent a.skip (empty_store a.plan) (pairs a.count a.list.now) (empty_store a.plan) true) (rest_all a.count a.list.now)
-          (refiling-start lent s.requires.within s.requires.lent a.skip (pairs a.count a.list.now) s.requires.list_value)),
+          (refiling-start lent c.requires.within c.requires.lent a.skip (pairs a.count a.list.now) c.requires.list_value)),
     )
 
 pub refile_one-requires : goal.refile_one-requires
@@ -49,14 +48,12 @@ refile_one-requires c =
     let loop = c.loop-k in
     subst (Refiling lent a.skip (empty_store a.plan) (pairs a.count a.list.now) loop.store loop.fits)
     (rest-next a.count loop.k a.list.now (omega arith)) loop.invariant.1) in
-    let r = c in
-    let s = c in
-    let a = s.args in
-    let loop = r.loop-k in record {
-      within = s.requires.within;
-      lent = s.requires.lent;
-      k_in_bounds = omega (arith, s.requires.count_in_bounds);
-      k_bound = value-below lent s.requires.within s.requires.lent a.skip _ _ _ _ _ _ turn;
+    let a = c.args in
+    let loop = c.loop-k in record {
+      within = c.requires.within;
+      lent = c.requires.lent;
+      k_in_bounds = omega (arith, c.requires.count_in_bounds);
+      k_bound = value-below lent c.requires.within c.requires.lent a.skip _ _ _ _ _ _ turn;
       ready = loop.invariant.1.ready;
     }
 
@@ -82,10 +79,8 @@ loop-k-preserved c =
     let loop = c.loop-k in
     subst (Refiling lent a.skip (empty_store a.plan) (pairs a.count a.list.now) loop.store loop.fits)
     (rest-next a.count loop.k a.list.now (omega arith)) loop.invariant.1) in
-    let r = c in
-    let s = c in
-    let a = s.args in
-    let loop = r.loop-k in
+    let a = c.args in
+    let loop = c.loop-k in
     let one = c.refile_one in
     let one-is = one-pair loop.k a.list.now in
     let said = one.ensures.value ∙ ap (λ (l : List Pair). consistent lent loop.store (without l a.skip)) one-is in
@@ -95,7 +90,7 @@ loop-k-preserved c =
     ] in (
       omega arith,
       rw (one.ensures.store_after, one-is)
-          (refiling-next lent s.requires.within s.requires.lent a.skip (pairs a.count a.list.now) _ _ _ _ _ turn c.if-not-refile_one.fits fits),
+          (refiling-next lent c.requires.within c.requires.lent a.skip (pairs a.count a.list.now) _ _ _ _ _ turn c.if-not-refile_one.fits fits),
     )
 
 pub returns : goal.returns
@@ -103,8 +98,7 @@ returns c =
     let lent : Given =
     (let a = c.args in
     lend a.plan a.radices.now a.weights.now a.tables.now a.d.now) in
-    let s = c in
-    let a = s.args in
+    let a = c.args in
     let loop = c.loop-k in
-    clauses (refiling-end lent s.requires.within s.requires.lent a.skip (pairs a.count a.list.now) (empty_store a.plan) loop.store loop.fits
+    clauses (refiling-end lent c.requires.within c.requires.lent a.skip (pairs a.count a.list.now) (empty_store a.plan) loop.store loop.fits
     (subst (Refiling lent a.skip (empty_store a.plan) (pairs a.count a.list.now) loop.store loop.fits) (rest-none a.count loop.k a.list.now (omega arith)) loop.invariant.1))

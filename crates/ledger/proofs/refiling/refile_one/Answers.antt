@@ -22,19 +22,18 @@ returns-then-entry-skip c =
     lend a.plan a.radices.now a.weights.now a.tables.now a.d.now) in
     let pair : Pair =
     ((at c.args.list.now (2 * c.args.k), at c.args.list.now (2 * c.args.k + 1))) in
-    let s = c in
-    let a = s.args in
+    let a = c.args in
     let x = pair in
     let left = left_out lent a.skip a.store.now x c.if-entry-skip.true in
     clauses (rw (one-pair a.k a.list.now) (sym left.0, sym left.1))
 
 pub file_entry-requires : goal.file_entry-requires
 file_entry-requires c =
-    let s = c in record {
-      within = s.requires.within;
-      lent = s.requires.lent;
-      ready = s.requires.ready;
-      value_lt_p = omega (arith, s.requires.k_bound, s.requires.within.value-high);
+    record {
+      within = c.requires.within;
+      lent = c.requires.lent;
+      ready = c.requires.ready;
+      value_lt_p = omega (arith, c.requires.k_bound, c.requires.within.value-high);
     }
 
 pub returns : goal.returns
@@ -44,8 +43,7 @@ returns c =
     lend a.plan a.radices.now a.weights.now a.tables.now a.d.now) in
     let pair : Pair =
     ((at c.args.list.now (2 * c.args.k), at c.args.list.now (2 * c.args.k + 1))) in
-    let s = c in
-    let a = s.args in
+    let a = c.args in
     let filed = c.file_entry in
     let put = put_in lent a.skip a.store.now pair c.if-entry-skip.false in
     clauses (rw (one-pair a.k a.list.now)

@@ -21,8 +21,7 @@ put_number-requires c =
     c.put_number-second.ensures.out_after c.put_number-second.ensures.value) in
     let second : let s = c.args in
     Left 21 s.out.now s.at (([] ++ ended s.a 32) ++ ended s.b 32) c.put_number-third.new.out c.put_number-third.result =
-    (let r = c in
-    let b = c.args.b in
+    (let b = c.args.b in
     left-next 21 21 (ended b 32) first (ended-most b 32) (omega arith) c.put_number-third.ensures.out_after c.put_number-third.ensures.value) in
     omega (arith, second.left)
 

@@ -20,8 +20,7 @@ put_number-fourth-requires c =
     left-next 4 29 (ended s.args.kind 32) (left-none 33 s.args.out.now s.args.at s.requires.at_in_bounds) (ended-small s.args.kind 32 s.requires.kind_bound.0) (omega arith) c.put_number-second.ensures.out_after c.put_number-second.ensures.value) in
     let second : let s = c.args in
     Left 25 s.out.now s.at (([] ++ ended s.kind 32) ++ ended s.to 32) c.put_number-third.new.out c.put_number-third.result =
-    (let r = c in
-    let s = c in
+    (let s = c in
     left-next 4 25 (ended s.args.to 32) first (ended-small s.args.to 32 s.requires.kind_bound.1) (omega arith) c.put_number-third.ensures.out_after c.put_number-third.ensures.value) in
     omega (arith, second.left)
 
@@ -32,8 +31,7 @@ put_number-requires c =
     left-next 4 29 (ended s.args.kind 32) (left-none 33 s.args.out.now s.args.at s.requires.at_in_bounds) (ended-small s.args.kind 32 s.requires.kind_bound.0) (omega arith) c.put_number-second.ensures.out_after c.put_number-second.ensures.value) in
     let second : let s = c.args in
     Left 25 s.out.now s.at (([] ++ ended s.kind 32) ++ ended s.to 32) c.put_number-third.new.out c.put_number-third.result =
-    (let r = c in
-    let s = c in
+    (let s = c in
     left-next 4 25 (ended s.args.to 32) first (ended-small s.args.to 32 s.requires.kind_bound.1) (omega arith) c.put_number-third.ensures.out_after c.put_number-third.ensures.value) in
     -- whichever number the third is, it has room for the last one
     let third = left-next 4 21 _ second (ended-small _ 32 (omega (arith, c.requires.kind_bound))) (omega arith) c.put_number-fourth.ensures.out_after c.put_number-fourth.ensures.value in

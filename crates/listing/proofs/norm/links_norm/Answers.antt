@@ -43,16 +43,14 @@ loop-k-smaller c = omega arith
 
 pub loop-k-preserved : goal.loop-k-preserved
 loop-k-preserved c =
-    let r = c in
     let P = c.args.plan in
-    let at-begin = r.loop-k.invariant.1 in (
+    let at-begin = c.loop-k.invariant.1 in (
       omega arith,
-      ap (λ (a : ℕ). a + (P.n + r.loop-k.k)) at-begin ∙ sym (sum-next (λ i. P.n + i) r.loop-k.k),
-      largest-turn _ _ _ _ _ r.loop-k.invariant.2 (c.squares.ensures ∙ ap (λ (a : ℕ). specs.squares P.p c.args.weights.now a (P.n + r.loop-k.k)) at-begin) c.larger-top.ensures,
+      ap (λ (a : ℕ). a + (P.n + c.loop-k.k)) at-begin ∙ sym (sum-next (λ i. P.n + i) c.loop-k.k),
+      largest-turn _ _ _ _ _ c.loop-k.invariant.2 (c.squares.ensures ∙ ap (λ (a : ℕ). specs.squares P.p c.args.weights.now a (P.n + c.loop-k.k)) at-begin) c.larger-top.ensures,
     )
 
 pub returns : goal.returns
 returns c =
-    let r = c in
     let P = c.args.plan in
-    r.loop-k.invariant.2 ∙ ap (largest (λ i. specs.squares P.p c.args.weights.now (link_start P i) (P.n + i))) (le_antisymm r.loop-k.invariant.0 c.loop-k-test.false)
+    c.loop-k.invariant.2 ∙ ap (largest (λ i. specs.squares P.p c.args.weights.now (link_start P i) (P.n + i))) (le_antisymm c.loop-k.invariant.0 c.loop-k-test.false)

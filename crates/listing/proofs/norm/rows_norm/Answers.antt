@@ -36,16 +36,14 @@ loop-b-smaller c = omega arith
 
 pub loop-b-preserved : goal.loop-b-preserved
 loop-b-preserved c =
-    let r = c in
     let s = c.args in
-    let at-begin = r.loop-b.invariant.1 in (
+    let at-begin = c.loop-b.invariant.1 in (
       omega arith,
       omega (arith, at-begin),
-      largest-turn _ _ _ _ _ r.loop-b.invariant.2 (c.squares.ensures ∙ ap (λ (a : ℕ). specs.squares s.p s.ws.now a s.l) at-begin) c.larger-top.ensures,
+      largest-turn _ _ _ _ _ c.loop-b.invariant.2 (c.squares.ensures ∙ ap (λ (a : ℕ). specs.squares s.p s.ws.now a s.l) at-begin) c.larger-top.ensures,
     )
 
 pub returns : goal.returns
 returns c =
-    let r = c in
     let s = c.args in
-    r.loop-b.invariant.2 ∙ ap (largest (λ i. specs.squares s.p s.ws.now (i * s.l) s.l)) (le_antisymm r.loop-b.invariant.0 c.loop-b-test.false)
+    c.loop-b.invariant.2 ∙ ap (largest (λ i. specs.squares s.p s.ws.now (i * s.l) s.l)) (le_antisymm c.loop-b.invariant.0 c.loop-b-test.false)

@@ -21,25 +21,20 @@ bounds-ws-begin c = omega arith
 
 pub short_side-w-requires : goal.short_side-w-requires
 short_side-w-requires c =
-    let r = c in
-    c.requires.residues (c.args.begin + r.loop-j.j)
+    c.requires.residues (c.args.begin + c.loop-j.j)
 
 pub overflow_cast-w : goal.overflow_cast-w
 overflow_cast-w c =
     let half : c.short_side-w.result ≤ 127 =
-    (let r = c in
-    let s = c in
-    let place = s.args.begin + r.loop-j.j in
-    omega (arith, short-half s.args.p (at s.args.ws.now place) (s.requires.residues place), c.short_side-w.ensures)) in
+    (let place = c.args.begin + c.loop-j.j in
+    omega (arith, short-half c.args.p (at c.args.ws.now place) (c.requires.residues place), c.short_side-w.ensures)) in
     omega (arith, half)
 
 pub overflow_mul-total : goal.overflow_mul-total
 overflow_mul-total c =
     let half : c.short_side-w.result ≤ 127 =
-    (let r = c in
-    let s = c in
-    let place = s.args.begin + r.loop-j.j in
-    omega (arith, short-half s.args.p (at s.args.ws.now place) (s.requires.residues place), c.short_side-w.ensures)) in
+    (let place = c.args.begin + c.loop-j.j in
+    omega (arith, short-half c.args.p (at c.args.ws.now place) (c.requires.residues place), c.short_side-w.ensures)) in
     let square-small : c.short_side-w.result * c.short_side-w.result ≤ 127 * 127 =
     (mul-le-mul half half) in
     omega (arith, square-small)
@@ -47,10 +42,8 @@ overflow_mul-total c =
 pub overflow_add-total : goal.overflow_add-total
 overflow_add-total c =
     let half : c.short_side-w.result ≤ 127 =
-    (let r = c in
-    let s = c in
-    let place = s.args.begin + r.loop-j.j in
-    omega (arith, short-half s.args.p (at s.args.ws.now place) (s.requires.residues place), c.short_side-w.ensures)) in
+    (let place = c.args.begin + c.loop-j.j in
+    omega (arith, short-half c.args.p (at c.args.ws.now place) (c.requires.residues place), c.short_side-w.ensures)) in
     let square-small : c.short_side-w.result * c.short_side-w.result ≤ 127 * 127 =
     (mul-le-mul half half) in
     omega (arith, square-small)
@@ -82,6 +75,5 @@ overflow_cast-result c = omega arith
 
 pub returns : goal.returns
 returns c =
-    let r = c in
     let s = c.args in
-    r.loop-j.invariant.1 ∙ ap (specs.squares s.p s.ws.now s.begin) (le_antisymm r.loop-j.invariant.0 c.loop-j-test.false)
+    c.loop-j.invariant.1 ∙ ap (specs.squares s.p s.ws.now s.begin) (le_antisymm c.loop-j.invariant.0 c.loop-j-test.false)

@@ -14,10 +14,9 @@ rows_norm-products-requires c =
 
 pub rows_norm-last-requires : goal.rows_norm-last-requires
 rows_norm-last-requires c =
-    let r = c in
     let pre = c.requires in record {
-      l_bound = omega (arith, r.variables-l.ensures, pre.within.variable-limit);
-      l_in_bounds = (rw r.variables-l.ensures (le_of_eq (sym pre.beta_len.0)), pre.beta_len.1);
+      l_bound = omega (arith, c.variables-l.ensures, pre.within.variable-limit);
+      l_in_bounds = (rw c.variables-l.ensures (le_of_eq (sym pre.beta_len.0)), pre.beta_len.1);
     }
 
 pub returns : goal.returns

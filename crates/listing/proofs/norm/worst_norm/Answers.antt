@@ -36,10 +36,9 @@ worst-requires c =
     let admitted : let a = c.args in
     Admitted (given a.p a.s a.n a.m a.t a.radices.now a.weights.now a.tables.now a.d.now) (Row (length a.beta.now)) c.in-Accepted.plan =
     (admission _ _ (sym c.admit.ensures ∙ ap answer_of c.in-Accepted.is)) in
-    let r = c in
     let a = admitted in
     let below = sym c.all_below.ensures ∙ not-false _ (ap not c.if-not-all_below.false) in
-    let residues = residues-of r.in-Accepted.plan.p c.args.beta.now (omega (arith, prime-low a.within)) below in record {
+    let residues = residues-of c.in-Accepted.plan.p c.args.beta.now (omega (arith, prime-low a.within)) below in record {
       within = a.within;
       weights_len = (a.lent.weights-length, a.lent.weights-residues);
       d_len = (a.lent.products-length, a.lent.products-residues);

@@ -21,13 +21,10 @@ put_bytes-body-requires c =
     let figure_line : List ℕ =
     (line ((c.args.plan.m + 2 * c.args.plan.t) ∷ (length steps / 4) ∷ c.worst-norm.result ∷ [])) in
     let first : Left 131049 c.args.out.now 0 ([] ++ figure_names) c.put_bytes-figures.new.out c.put_bytes-figures.result =
-    (let s = c in
-    left-next 23 131049 figure_names (left-none 131072 s.args.out.now 0 s.requires.in_bounds) (omega arith) (omega arith)
+    (left-next 23 131049 figure_names (left-none 131072 c.args.out.now 0 c.requires.in_bounds) (omega arith) (omega arith)
     c.put_bytes-figures.ensures.out_after c.put_bytes-figures.ensures.value) in
-    let second : let r = c in
-    Left 130986 c.args.out.now 0 (([] ++ figure_names) ++ figure_line) c.put_figures-names.new.out c.put_figures-names.result =
-    (let one = c in
-    left-next 63 130986 figure_line first (three-most _ _ _) (omega arith) c.put_figures-names.ensures.out_after c.put_figures-names.ensures.value) in
+    let second : Left 130986 c.args.out.now 0 (([] ++ figure_names) ++ figure_line) c.put_figures-names.new.out c.put_figures-names.result =
+    (left-next 63 130986 figure_line first (three-most _ _ _) (omega arith) c.put_figures-names.ensures.out_after c.put_figures-names.ensures.value) in
     omega (arith, second.left)
 
 pub put_steps-requires : goal.put_steps-requires
@@ -44,13 +41,11 @@ put_steps-requires c =
     let figure_line : List ℕ =
     (line ((c.args.plan.m + 2 * c.args.plan.t) ∷ (length steps / 4) ∷ c.worst-norm.result ∷ [])) in
     let first : Left 131049 c.args.out.now 0 ([] ++ figure_names) c.put_bytes-figures.new.out c.put_bytes-figures.result =
-    (let s = c in
-    left-next 23 131049 figure_names (left-none 131072 s.args.out.now 0 s.requires.in_bounds) (omega arith) (omega arith)
+    (left-next 23 131049 figure_names (left-none 131072 c.args.out.now 0 c.requires.in_bounds) (omega arith) (omega arith)
     c.put_bytes-figures.ensures.out_after c.put_bytes-figures.ensures.value) in
     let second : let r = c in
     Left 130986 c.args.out.now 0 (([] ++ figure_names) ++ figure_line) c.put_figures-names.new.out c.put_figures-names.result =
-    (let one = c in
-    left-next 63 130986 figure_line first (three-most _ _ _) (omega arith) c.put_figures-names.ensures.out_after c.put_figures-names.ensures.value) in
+    (left-next 63 130986 figure_line first (three-most _ _ _) (omega arith) c.put_figures-names.ensures.out_after c.put_figures-names.ensures.value) in
     let third : let r = c in
     Left 130970 c.args.out.now 0 ((([] ++ figure_names) ++ figure_line) ++ step_names) c.put_bytes-body.new.out c.put_bytes-body.result =
     (left-next 16 130970 step_names second (omega arith) (omega arith) c.put_bytes-body.ensures.out_after
@@ -80,8 +75,7 @@ returns c =
     c.put_bytes-figures.ensures.out_after c.put_bytes-figures.ensures.value) in
     let second : let r = c in
     Left 130986 c.args.out.now 0 (([] ++ figure_names) ++ figure_line) c.put_figures-names.new.out c.put_figures-names.result =
-    (let one = c in
-    left-next 63 130986 figure_line first (three-most _ _ _) (omega arith) c.put_figures-names.ensures.out_after c.put_figures-names.ensures.value) in
+    (left-next 63 130986 figure_line first (three-most _ _ _) (omega arith) c.put_figures-names.ensures.out_after c.put_figures-names.ensures.value) in
     let third : let r = c in
     Left 130970 c.args.out.now 0 ((([] ++ figure_names) ++ figure_line) ++ step_names) c.put_bytes-body.new.out c.put_bytes-body.result =
     (left-next 16 130970 step_names second (omega arith) (omega arith) c.put_bytes-body.ensures.out_after

@@ -8,7 +8,7 @@ use Rattle.listing.proofs.Lines.{lines_none, lines_left, lines-turn, lines-done}
 use Rattle.listing.proofs.printing.put_steps.Goals as goal
 
 pub loop-i-init : goal.loop-i-init
-loop-i-init c = let s = c in (omega arith, lines_none s.args.steps.now s.requires.by_index _ _ (omega (arith, s.requires.steps_in_bounds)))
+loop-i-init c = (omega arith, lines_none c.args.steps.now c.requires.by_index _ _ (omega (arith, c.requires.steps_in_bounds)))
 
 pub overflow_mul-k : goal.overflow_mul-k
 overflow_mul-k c = omega arith
@@ -50,10 +50,9 @@ pub put_step-next-requires : goal.put_step-next-requires
 put_step-next-requires c =
     let inside = c in
     let r = inside in
-    let s = c in
-    let pre = s.requires in
+    let pre = c.requires in
     let i = r.loop-i.i in record {
-      at_in_bounds = lines_left s.args.steps.now pre.by_index i r.loop-i.invariant.1 inside.loop-i-test.true pre.steps_in_bounds;
+      at_in_bounds = lines_left c.args.steps.now pre.by_index i r.loop-i.invariant.1 inside.loop-i-test.true pre.steps_in_bounds;
       kind_bound = (pre.by_index (4 * i), pre.by_index (4 * i + 1), pre.by_index (4 * i + 2), pre.by_index (4 * i + 3));
     }
 

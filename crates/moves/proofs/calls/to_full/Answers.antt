@@ -76,7 +76,6 @@ widen-requires c =
     let a = c.args in
     let b = both_true (eqb (length a.half.now) (store_size (columns Q))) (eqb (length a.full.now) (full_size (columns Q))) admitted.own-fits in
     (eqb-true _ _ b.0, eqb-true _ _ b.1)) in
-    let r = c in
     let e = c.columns-c.ensures in record {
       c_bound = columns-small _ admitted.within e;
       half_len = fit.0 ∙ ap store_size (sym e);

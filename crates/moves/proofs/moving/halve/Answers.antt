@@ -66,8 +66,7 @@ copy-requires c =
     let args = c.args in
     (loop.from + (args.c + 1 - loop.q) ≤ length args.full.now) × (loop.to + (args.c + 1 - loop.q) ≤ store_size args.c) =
     (halving-room c.loop-q.invariant c.requires.full_len c.loop-q-test.true) in
-    let turn = c in
-    let loop = turn.loop-q in
+    let loop = c.loop-q in
     let count = c.args.c + 1 - loop.q in
     cut-length c.args.full.now loop.from count room.0
     ∙ sym (cut-length loop.half loop.to count (omega (arith, room.1, loop.invariant.written.same)))
@@ -81,7 +80,6 @@ overflow_add-from-in-loop-q c =
     let args = c.args in
     (loop.from + (args.c + 1 - loop.q) ≤ length args.full.now) × (loop.to + (args.c + 1 - loop.q) ≤ store_size args.c) =
     (halving-room c.loop-q.invariant c.requires.full_len c.loop-q-test.true) in
-    let turn = c in
     omega (arith, room.0, c.requires.c_bound)
 
 pub overflow_add-q : goal.overflow_add-q
@@ -92,8 +90,7 @@ loop-q-smaller c = omega arith
 
 pub loop-q-preserved : goal.loop-q-preserved
 loop-q-preserved c =
-    let turn = c in
-    halving-next turn.loop-q.invariant c.requires.full_len turn.loop-q-test.true _ c.copy.ensures
+    halving-next c.loop-q.invariant c.requires.full_len c.loop-q-test.true _ c.copy.ensures
 
 pub returns : goal.returns
 returns c = halving-all c.loop-q.invariant c.loop-q-test.false

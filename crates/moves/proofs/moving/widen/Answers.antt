@@ -65,11 +65,10 @@ widen_row-requires c =
     let args = c.args in
     (loop.from + (args.c + 1 - loop.q) ≤ length args.half.now) × (loop.to + (args.c + 1) ≤ full_size args.c) =
     (widening-room c.loop-q.invariant c.requires.half_len c.loop-q-test.true) in
-    let turn = c in
-    let loop = turn.loop-q in
-    let part = widening-part loop.invariant c.requires.half_len turn.loop-q-test.true in
+    let loop = c.loop-q in
+    let part = widening-part loop.invariant c.requires.half_len c.loop-q-test.true in
     let row = cut-length loop.full loop.to (c.args.c + 1) (omega (arith, room.1, loop.invariant.written.same)) in
-    omega (arith, part, row, turn.loop-q-test.true)
+    omega (arith, part, row, c.loop-q-test.true)
 
 pub overflow_add-q : goal.overflow_add-q
 overflow_add-q c = omega arith
@@ -79,8 +78,7 @@ loop-q-smaller c = omega arith
 
 pub loop-q-preserved : goal.loop-q-preserved
 loop-q-preserved c =
-    let turn = c in
-    widening-next turn.loop-q.invariant c.requires.half_len turn.loop-q-test.true _ c.widen_row.ensures
+    widening-next c.loop-q.invariant c.requires.half_len c.loop-q-test.true _ c.widen_row.ensures
 
 pub returns : goal.returns
 returns c = widening-all c.loop-q.invariant c.loop-q-test.false

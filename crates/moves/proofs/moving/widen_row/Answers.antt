@@ -16,7 +16,5 @@ slice_bounds-clear-end-2 c =
 pub returns : goal.returns
 returns c =
     let copied = c.copy in
-    let cleared = c.before.before.before.before.before.before in
-    let start = cleared.before.before.before.before in
-    row-joined start.args.row.now cleared.clear.new.xs copied.new.out start.args.q (omega (arith, start.requires)) cleared.clear.ensures
-    ∙ ap (λ (ys : List ℕ). replicate start.args.q 0 ++ ys) copied.ensures
+    row-joined c.args.row.now c.clear.new.xs copied.new.out c.args.q (omega (arith, c.requires)) c.clear.ensures
+    ∙ ap (λ (ys : List ℕ). replicate c.args.q 0 ++ ys) copied.ensures

@@ -23,10 +23,10 @@ slice_bounds-take_full_rows-end c = sym (length-take-le (c.args.c + 1) _ (omega 
 
 pub take_full_rows-requires : goal.take_full_rows-requires
 take_full_rows-requires c =
-    let start = c in record {
-      c_bound = start.requires.c_bound;
-      full_len = start.requires.full_len;
-      tops_value = zeros-front 1032 (start.args.c + 1) (omega arith);
+    record {
+      c_bound = c.requires.c_bound;
+      full_len = c.requires.full_len;
+      tops_value = zeros-front 1032 (c.args.c + 1) (omega arith);
     }
 
 pub returns-then-not-take_full_rows : goal.returns-then-not-take_full_rows
@@ -35,9 +35,8 @@ returns-then-not-take_full_rows c =
     not (is_damaged args.p (full_after args.p args.c args.full.now args.c)) ≡ is_reduced args.p args.c (full_cells args.c args.full.now) =
     (ap not (full-damaged-exactly c.args.c c.args.full.now c.args.p c.requires.modulus.0 c.requires.full_len)
     ∙ not-not (is_reduced c.args.p c.args.c (full_cells c.args.c c.args.full.now))) in
-    let start = c in
     let rows = c.take_full_rows in
-    unsound-said start.args.p start.args.c rows.result rows.new.tops _ rows.ensures.tops_after (not-true rows.result (ap not c.if-not-take_full_rows.true)) ∙ said
+    unsound-said c.args.p c.args.c rows.result rows.new.tops _ rows.ensures.tops_after (not-true rows.result (ap not c.if-not-take_full_rows.true)) ∙ said
 
 pub returns : goal.returns
 returns c =
@@ -45,7 +44,6 @@ returns c =
     not (is_damaged args.p (full_after args.p args.c args.full.now args.c)) ≡ is_reduced args.p args.c (full_cells args.c args.full.now) =
     (ap not (full-damaged-exactly c.args.c c.args.full.now c.args.p c.requires.modulus.0 c.requires.full_len)
     ∙ not-not (is_reduced c.args.p c.args.c (full_cells c.args.c c.args.full.now))) in
-    let start = c in
     let rows = c.take_full_rows in
-    last-asked start.args.p start.args.c rows.result rows.new.tops _ rows.ensures.tops_after [] _ _ (sym (zero-add start.args.c)) rows.ensures.tops_len (not-false rows.result (ap not c.if-not-take_full_rows.false))
+    last-asked c.args.p c.args.c rows.result rows.new.tops _ rows.ensures.tops_after [] _ _ (sym (zero-add c.args.c)) rows.ensures.tops_len (not-false rows.result (ap not c.if-not-take_full_rows.false))
     ∙ said

@@ -42,36 +42,32 @@ slice_bounds-all_below-end c = sym (length-take-le _ _ (omega arith))
 
 pub returns-then-not-all_below-2 : goal.returns-then-not-all_below-2
 returns-then-not-all_below-2 c =
-    let start = c.before.before.before.before.before.before.before.before.before.before.before.before.before in
-    let args = start.args in
+    let args = c.args in
     let test = c.all_below-2 in
     let left : all_below 1 (take args.q args.row.now) ≡ false = sym test.ensures ∙ not-true test.result (ap not c.if-not-all_below-2.true) in
-    clauses (full-pivot args.p args.q args.sound _ args.tops.now _ args.row.now (omega (arith, start.requires.row_len, start.requires.tops_nonzero)) c.if-first-eq0.false c.raise.ensures
+    clauses (full-pivot args.p args.q args.sound _ args.tops.now _ args.row.now (omega (arith, c.requires.row_len, c.requires.tops_nonzero)) c.if-first-eq0.false c.raise.ensures
     (rw left))
 
 pub returns-then-above-ne0 : goal.returns-then-above-ne0
 returns-then-above-ne0 c =
-    let start = c.before.before.before.before.before.before.before.before.before.before.before.before.before.before in
-    let args = start.args in
+    let args = c.args in
     let test = c.all_below-2 in
     let left : all_below 1 (take args.q args.row.now) ≡ true = sym test.ensures ∙ not-false test.result (ap not c.if-not-all_below-2.false) in
-    clauses (full-pivot args.p args.q args.sound _ args.tops.now _ args.row.now (omega (arith, start.requires.row_len, start.requires.tops_nonzero)) c.if-first-eq0.false c.raise.ensures
+    clauses (full-pivot args.p args.q args.sound _ args.tops.now _ args.row.now (omega (arith, c.requires.row_len, c.requires.tops_nonzero)) c.if-first-eq0.false c.raise.ensures
     (rw (left, ne_eqb (at args.tops.now 0) 0 c.if-above-ne0.true)))
 
 pub returns-then-first-ne1 : goal.returns-then-first-ne1
 returns-then-first-ne1 c =
-    let start = c.before.before.before.before.before.before.before.before.before.before.before.before.before.before.before in
-    let args = start.args in
+    let args = c.args in
     let test = c.all_below-2 in
     let left : all_below 1 (take args.q args.row.now) ≡ true = sym test.ensures ∙ not-false test.result (ap not c.if-not-all_below-2.false) in
-    clauses (full-pivot args.p args.q args.sound _ args.tops.now _ args.row.now (omega (arith, start.requires.row_len, start.requires.tops_nonzero)) c.if-first-eq0.false c.raise.ensures
+    clauses (full-pivot args.p args.q args.sound _ args.tops.now _ args.row.now (omega (arith, c.requires.row_len, c.requires.tops_nonzero)) c.if-first-eq0.false c.raise.ensures
     (rw (left, eq-eqb (at args.tops.now 0) 0 c.if-above-ne0.false, ne_eqb (at args.row.now args.q) 1 c.if-first-ne1.true)))
 
 pub returns : goal.returns
 returns c =
-    let start = c.before.before.before.before.before.before.before.before.before.before.before.before.before.before.before in
-    let args = start.args in
+    let args = c.args in
     let test = c.all_below-2 in
     let left : all_below 1 (take args.q args.row.now) ≡ true = sym test.ensures ∙ not-false test.result (ap not c.if-not-all_below-2.false) in
-    clauses (full-pivot args.p args.q args.sound _ args.tops.now _ args.row.now (omega (arith, start.requires.row_len, start.requires.tops_nonzero)) c.if-first-eq0.false c.raise.ensures
+    clauses (full-pivot args.p args.q args.sound _ args.tops.now _ args.row.now (omega (arith, c.requires.row_len, c.requires.tops_nonzero)) c.if-first-eq0.false c.raise.ensures
     (rw (left, eq-eqb (at args.tops.now 0) 0 c.if-above-ne0.false, eq-eqb (at args.row.now args.q) 1 c.if-first-ne1.false)))

@@ -18,8 +18,7 @@ overflow_add-width c = omega arith
 pub loop-q-init : goal.loop-q-init
 unfolding full_after
 loop-q-init c =
-    let start = c in
-    (taken_none refl start.requires.tops_value, sym (zero-mul (start.args.c + 1)))
+    (taken_none refl c.requires.tops_value, sym (zero-mul (c.args.c + 1)))
 
 pub overflow_add-end : goal.overflow_add-end
 overflow_add-end c =

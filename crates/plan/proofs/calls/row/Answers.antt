@@ -26,7 +26,6 @@ returns-then-entries-entry c =
     let admitted : let a = c.args in
     Admitted (given a.p a.s a.n a.m a.t a.radices.now a.weights.now a.tables.now a.d.now) (Row (length a.row.now)) c.in-Accepted.plan =
     (admission _ _ (sym c.admit.ensures ∙ ap answer_of c.in-Accepted.is)) in
-    let r = c in
     let a = admitted in
     let far : product c.args.radices.now ≤ c.args.entry = omega (arith, c.entries.ensures, c.if-entries-entry.true) in record {
       r_value = sym (a.rest _ ∙ rw (le-ltb _ _ far));
@@ -56,11 +55,9 @@ returns-else-entries-entry c =
     let admitted : let a = c.args in
     Admitted (given a.p a.s a.n a.m a.t a.radices.now a.weights.now a.tables.now a.d.now) (Row (length a.row.now)) c.in-Accepted.plan =
     (admission _ _ (sym c.admit.ensures ∙ ap answer_of c.in-Accepted.is)) in
-    let r = c in
     let a = admitted in
     let args = c.args in
-    let test = c in
-    let near : args.entry < product args.radices.now = omega (arith, test.entries.ensures, test.if-entries-entry.false) in record {
+    let near : args.entry < product args.radices.now = omega (arith, c.entries.ensures, c.if-entries-entry.false) in record {
       r_value = sym (a.rest _ ∙ rw (lt-ltb _ _ near));
       row_after = c.fill_row.ensures ∙ ap (λ (P : Plan). row (lend P args.radices.now args.weights.now args.tables.now args.d.now) args.entry) (sym a.same);
     }

@@ -21,7 +21,6 @@ returns-then-not-own c =
     (eq-eqb _ _ c.if-radices-plan.false) in
     let lengths : let a = c.args in lengths_fit a.plan a.weights.now a.tables.now a.d.now ≡ true =
     (sym c.lengths_fit.ensures ∙ not-false _ (ap not c.if-not-lengths_fit.false)) in
-    let r = c in
     rw (count, lengths, not-true c.args.own (ap not c.if-not-own.true))
 
 pub returns-then-not-values_fit : goal.returns-then-not-values_fit
@@ -30,7 +29,6 @@ returns-then-not-values_fit c =
     (eq-eqb _ _ c.if-radices-plan.false) in
     let lengths : let a = c.args in lengths_fit a.plan a.weights.now a.tables.now a.d.now ≡ true =
     (sym c.lengths_fit.ensures ∙ not-false _ (ap not c.if-not-lengths_fit.false)) in
-    let r = c in
     rw (count, lengths, not-false c.args.own (ap not c.if-not-own.false), sym c.values_fit.ensures ∙ not-true _ (ap not c.if-not-values_fit.true))
 
 pub returns : goal.returns
@@ -39,5 +37,4 @@ returns c =
     (eq-eqb _ _ c.if-radices-plan.false) in
     let lengths : let a = c.args in lengths_fit a.plan a.weights.now a.tables.now a.d.now ≡ true =
     (sym c.lengths_fit.ensures ∙ not-false _ (ap not c.if-not-lengths_fit.false)) in
-    let r = c in
     rw (count, lengths, not-false c.args.own (ap not c.if-not-own.false), sym c.values_fit.ensures ∙ not-false _ (ap not c.if-not-values_fit.false))

@@ -33,7 +33,6 @@ returns-then-r-gt-ENTRIES c =
     (let R = c.args.radices.now in
     let loop = c.loop-j in
     ap (λ (x : ℕ). x * at R loop.j) loop.invariant.1 ∙ sym (product-next R loop.j c.loop-j-test.true)) in
-    let r = c in
     let R = c.args.radices.now in
     sym (min-eq_right (omega (arith, next, product-front R c.requires (c.loop-j.j + 1))))
 

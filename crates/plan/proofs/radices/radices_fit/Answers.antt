@@ -19,10 +19,9 @@ bounds-radices-j c = omega arith
 pub returns-then-not-radix_fits : goal.returns-then-not-radix_fits
 unfolding radices_fit
 returns-then-not-radix_fits c =
-    let r = c in
     let a = c.args in
     sym (refute _ (λ e. true≢false
-    (sym (every-at (fits a.p a.radices.now) _ e c.loop-j.j r.loop-j-test.true) ∙ sym r.radix_fits.ensures ∙ not-true _ (ap not c.if-not-radix_fits.true))))
+    (sym (every-at (fits a.p a.radices.now) _ e c.loop-j.j c.loop-j-test.true) ∙ sym c.radix_fits.ensures ∙ not-true _ (ap not c.if-not-radix_fits.true))))
 
 pub overflow_add-j : goal.overflow_add-j
 overflow_add-j c = omega arith
@@ -32,10 +31,9 @@ loop-j-smaller c = omega arith
 
 pub loop-j-preserved : goal.loop-j-preserved
 loop-j-preserved c =
-    let r = c in
     let a = c.args in (
       omega arith,
-      every-next (fits a.p a.radices.now) c.loop-j.j ∙ ap₂ ◌&&◌ c.loop-j.invariant.1 (sym r.radix_fits.ensures ∙ not-false _ (ap not c.if-not-radix_fits.false)),
+      every-next (fits a.p a.radices.now) c.loop-j.j ∙ ap₂ ◌&&◌ c.loop-j.invariant.1 (sym c.radix_fits.ensures ∙ not-false _ (ap not c.if-not-radix_fits.false)),
     )
 
 pub returns : goal.returns

@@ -23,7 +23,6 @@ pub returns-then-product-gt-ENTRIES : goal.returns-then-product-gt-ENTRIES
 returns-then-product-gt-ENTRIES c =
     let fit : radices_fit c.args.p c.args.radices.now ≡ true =
     (sym c.radices_fit.ensures ∙ not-false _ (ap not c.if-not-radices_fit.false)) in
-    let r = c in
     let far : 4096 < product c.args.radices.now = omega (arith, c.product.ensures) in
     rw (fit, lt-ltb _ _ far)
 
@@ -31,6 +30,5 @@ pub returns : goal.returns
 returns c =
     let fit : radices_fit c.args.p c.args.radices.now ≡ true =
     (sym c.radices_fit.ensures ∙ not-false _ (ap not c.if-not-radices_fit.false)) in
-    let r = c in
     let near : product c.args.radices.now ≤ 4096 = omega (arith, c.product.ensures) in
     rw (fit, le-ltb _ _ near)

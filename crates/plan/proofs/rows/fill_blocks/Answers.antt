@@ -50,9 +50,8 @@ dot-g-requires c =
     block_room c.args.plan loop.from size loop.b loop.invariant.1 c.variables-l.ensures c.loop-b-test.true) in
     let d-fits : c.loop-b.from + size ≤ length c.args.d.now =
     (rw c.requires.d_len room) in
-    let r = c in
     let pre = c.requires in
-    let e = cut-length c.args.d.now r.loop-b.from size d-fits ∙ r.variables-l.ensures in record {
+    let e = cut-length c.args.d.now c.loop-b.from size d-fits ∙ c.variables-l.ensures in record {
       modulus = modulus pre.within;
       xs_len = pre.x_len.0 ∙ sym e;
       ws_len_bound = omega (arith, e, pre.within.variable-limit);
@@ -84,11 +83,9 @@ set_multiple-requires c =
     let row_fits : c.loop-b.from + size ≤ length c.loop-b.row =
     (let loop = c.loop-b in
     rw loop.invariant.0.same (row_room c.args.plan loop.from size room)) in
-    let then = c in
-    let r = c in
     let pre = c.requires in
     let pos : 0 < c.args.plan.p = omega (arith, prime-low pre.within) in
-    let e = cut-length r.loop-b.row r.loop-b.from size row_fits ∙ r.variables-l.ensures in record {
+    let e = cut-length c.loop-b.row c.loop-b.from size row_fits ∙ c.variables-l.ensures in record {
       modulus = modulus pre.within;
       ys_len = pre.x_len.0 ∙ sym e;
       residues = pre.x_len.1;
@@ -104,14 +101,12 @@ loop-b-smaller c = omega arith
 pub loop-b-preserved : goal.loop-b-preserved
 loop-b-preserved c =
     let size : ℕ = c.variables-l.result in
-    let then = c in
-    let r = c in
     let args = c.args in
     let pre = c.requires in
     let dot = c.dot-g in (
-      block-turn args.plan args.d.now args.x.now size r.loop-b.b dot.result r.loop-b.invariant.0 r.loop-b.invariant.1
-          r.variables-l.ensures then.loop-b-test.true pre.x_len.0 pre.d_len dot.ensures c.set_multiple.ensures,
-      omega (arith, r.variables-l.ensures, r.loop-b.invariant.1),
+      block-turn args.plan args.d.now args.x.now size c.loop-b.b dot.result c.loop-b.invariant.0 c.loop-b.invariant.1
+          c.variables-l.ensures c.loop-b-test.true pre.x_len.0 pre.d_len dot.ensures c.set_multiple.ensures,
+      omega (arith, c.variables-l.ensures, c.loop-b.invariant.1),
       omega arith,
     )
 
@@ -156,9 +151,8 @@ set_multiple-requires-2 c =
     (last-room c.args.plan c.loop-b.from size last-from c.variables-l.ensures) in
     let last_fits : c.loop-b.from + size ≤ length c.loop-b.row =
     (rw c.loop-b.invariant.0.same (le_of_eq last_end)) in
-    let r = c in
     let pre = c.requires in
-    let e = cut-length r.loop-b.row r.loop-b.from size last_fits ∙ r.variables-l.ensures in record {
+    let e = cut-length c.loop-b.row c.loop-b.from size last_fits ∙ c.variables-l.ensures in record {
       modulus = modulus pre.within;
       ys_len = pre.x_len.0 ∙ sym e;
       residues = pre.x_len.1;

@@ -29,7 +29,7 @@ nonzero_rem-x c =
     let lent : c.loop-j.j - 1 < length c.args.radices.now =
     (omega (arith, c.loop-j.invariant.near)) in
     let positive : 0 < at c.args.radices.now (c.loop-j.j - 1) =
-    (let s = c in radices-positive s.args.plan.p s.args.radices.now s.requires.radices.fit _ lent) in
+    (radices-positive c.args.plan.p c.args.radices.now c.requires.radices.fit _ lent) in
     positive
 
 pub overflow_cast-x : goal.overflow_cast-x
@@ -37,7 +37,7 @@ overflow_cast-x c =
     let lent : c.loop-j.j - 1 < length c.args.radices.now =
     (omega (arith, c.loop-j.invariant.near)) in
     let positive : 0 < at c.args.radices.now (c.loop-j.j - 1) =
-    (let s = c in radices-positive s.args.plan.p s.args.radices.now s.requires.radices.fit _ lent) in
+    (radices-positive c.args.plan.p c.args.radices.now c.requires.radices.fit _ lent) in
     let loop = c.loop-j in omega (arith, mod-lt loop.rest positive, c.type_inv.radices (loop.j - 1))
 
 pub bounds-x-j : goal.bounds-x-j
@@ -51,7 +51,7 @@ nonzero_div-rest c =
     let lent : c.loop-j.j - 1 < length c.args.radices.now =
     (omega (arith, c.loop-j.invariant.near)) in
     let positive : 0 < at c.args.radices.now (c.loop-j.j - 1) =
-    (let s = c in radices-positive s.args.plan.p s.args.radices.now s.requires.radices.fit _ lent) in
+    (radices-positive c.args.plan.p c.args.radices.now c.requires.radices.fit _ lent) in
     positive
 
 pub loop-j-smaller : goal.loop-j-smaller
@@ -59,7 +59,6 @@ loop-j-smaller c = omega arith
 
 pub loop-j-preserved : goal.loop-j-preserved
 loop-j-preserved c =
-    let written = c in
     let loop = c.loop-j in
     let a = c.args in
     let e : loop.j ≡ suc (loop.j - 1) = omega arith in
@@ -69,8 +68,7 @@ loop-j-preserved c =
 pub returns : goal.returns
 returns c =
     let loop = c.loop-j in
-    let s = c in
     let e : loop.j ≡ 0 = omega arith in
-    let R = s.args.radices.now in
-    split-all R s.args.entry (subst (λ (j : ℕ). Split R s.args.entry j loop.rest loop.x) e loop.invariant)
-    ∙ ap (λ (n : ℕ). tab n (digit R s.args.entry)) s.requires.radices.count
+    let R = c.args.radices.now in
+    split-all R c.args.entry (subst (λ (j : ℕ). Split R c.args.entry j loop.rest loop.x) e loop.invariant)
+    ∙ ap (λ (n : ℕ). tab n (digit R c.args.entry)) c.requires.radices.count

@@ -43,8 +43,7 @@ slice_bounds-fill_blocks-end c =
     (ap length c.fill_variables.ensures ∙ values_length plan _ ∙ sym c.variables-l.ensures) in
     let front : (rest : List ℕ) → take c.variables-l.result (filled ++ rest) ≡ values plan c.args.entry =
     (λ rest. take_at filled rest c.variables-l.result count ∙ c.fill_variables.ensures) in
-    let r = c in
-    sym (ap length (front _) ∙ values_length plan _ ∙ sym r.variables-l.ensures)
+    sym (ap length (front _) ∙ values_length plan _ ∙ sym c.variables-l.ensures)
 
 pub fill_blocks-requires : goal.fill_blocks-requires
 fill_blocks-requires c =
@@ -56,7 +55,6 @@ fill_blocks-requires c =
     (ap length c.fill_variables.ensures ∙ values_length plan _ ∙ sym c.variables-l.ensures) in
     let front : (rest : List ℕ) → take c.variables-l.result (filled ++ rest) ≡ values plan c.args.entry =
     (λ rest. take_at filled rest c.variables-l.result count ∙ c.fill_variables.ensures) in
-    let r = c in
     let pre = c.requires in
     let G = plan in
     let i = c.args.entry in
@@ -79,6 +77,5 @@ returns c =
     (ap length c.fill_variables.ensures ∙ values_length plan _ ∙ sym c.variables-l.ensures) in
     let front : (rest : List ℕ) → take c.variables-l.result (filled ++ rest) ≡ values plan c.args.entry =
     (λ rest. take_at filled rest c.variables-l.result count ∙ c.fill_variables.ensures) in
-    let r = c in
     let G = plan in
     c.fill_blocks.ensures ∙ ap (λ (xs : List ℕ). tab (columns G.numbers) (row_place G.numbers G.products xs)) (front _)

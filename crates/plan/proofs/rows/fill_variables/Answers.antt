@@ -20,15 +20,14 @@ slice_bounds-fill_digits-end-2 c =
 
 pub fill_digits-requires : goal.fill_digits-requires
 fill_digits-requires c =
-    let r = c in record {
-      radices = r.requires.lent.radices;
-      x_len = length-take-le r.args.plan.n r.args.x.now (omega arith);
+    record {
+      radices = c.requires.lent.radices;
+      x_len = length-take-le c.args.plan.n c.args.x.now (omega arith);
     }
 
 pub loop-k-init : goal.loop-k-init
 loop-k-init c =
-    let r = c in
-    linked-none _ _ c.fill_digits.new.x r.args.x.now c.fill_digits.ensures r.requires.x_len
+    linked-none _ _ c.fill_digits.new.x c.args.x.now c.fill_digits.ensures c.requires.x_len
 
 pub overflow_add-place : goal.overflow_add-place
 overflow_add-place c = omega arith
@@ -97,7 +96,6 @@ link-v-requires c =
     let tables-room : let a = c.args in c.loop-k.k * a.plan.p + a.plan.p ≤ length a.tables.now =
     (let a = c.args in
     table-room a.plan a.tables.now c.loop-k.k c.requires.lent.tables-length c.loop-k-test.true) in
-    let r = c in
     let loop = c.loop-k in
     let a = c.args in
     let P = a.plan in
@@ -124,11 +122,10 @@ loop-k-preserved c =
     (let a = c.args in
     let loop = c.loop-k in
     link-room a.plan a.weights.now loop.begin loop.k c.requires.lent.weights-length loop.invariant.begins c.loop-k-test.true) in
-    let r = c in
     let loop = c.loop-k in
     let a = c.args in
     let G = lend a.plan a.radices.now a.weights.now a.tables.now a.d.now in
-    linked-next c.link-v.result loop.invariant r.loop-k-test.true
+    linked-next c.link-v.result loop.invariant c.loop-k-test.true
     (c.link-v.ensures
     ∙ rw loop.invariant.done
     (link-of-parts a.plan a.weights.now a.tables.now (chain G a.entry loop.k) loop.begin loop.k loop.invariant.begins

@@ -44,9 +44,8 @@ returns-then-not-digits_fit c =
     let admitted : let a = c.args in
     Admitted (given a.p a.s a.n a.m a.t a.radices.now a.weights.now a.tables.now a.d.now) (Digits (length a.digits.now)) c.in-Accepted.plan =
     (admission _ _ (sym c.admit.ensures ∙ ap answer_of c.in-Accepted.is)) in
-    let good : let r = c in well_formed r.in-Accepted.plan c.args.steps.now ≡ true =
+    let good : well_formed c.in-Accepted.plan c.args.steps.now ≡ true =
     (sym c.well_formed-in-Accepted.ensures ∙ not-false _ (ap not c.if-not-well_formed.false)) in
-    let passed = c in
     refused-answer 12 _ _ (sym (admitted.rest _ ∙ rw (good, sym c.digits_fit.ensures ∙ not-true _ (ap not c.if-not-digits_fit.true)))) (omega arith)
 
 pub run_steps-requires : goal.run_steps-requires

@@ -25,8 +25,8 @@ returns-then-k-ne0 c =
     let admitted : let a = c.args in
     Admitted (given a.p a.s a.n a.m a.t a.radices.now a.weights.now a.tables.now a.d.now) (Row (length a.beta.now)) c.in-Accepted.plan =
     (admission _ _ (sym c.admit.ensures ∙ ap answer_of c.in-Accepted.is)) in
-    let test = c in record {
-      value = test.writing_refusal-k.ensures ∙ sym (admitted.rest _);
+    record {
+      value = c.writing_refusal-k.ensures ∙ sym (admitted.rest _);
       steps_after = written-refused _ _ _ _ _ _ (pos_of_ne-zero c.if-k-ne0.true);
     }
 

@@ -12,15 +12,12 @@ returns-then-not-all_below c = rw (sym c.all_below.ensures ∙ not-true _ (ap no
 
 pub overflow_mul-step_count : goal.overflow_mul-step_count
 overflow_mul-step_count c =
-    let s = c.before.before.before.before in
-    omega (arith, c.step_count.ensures, step-limit s.args.plan s.requires)
+    omega (arith, c.step_count.ensures, step-limit c.args.plan c.requires)
 
 pub returns-then-room-step_count : goal.returns-then-room-step_count
 returns-then-room-step_count c =
-    let test = c.before.before in
-    rw (sym test.all_below.ensures ∙ not-false _ (ap not test.if-not-all_below.false), lt-ltb _ _ (rw c.step_count.ensures at c.if-room-step_count.true))
+    rw (sym c.all_below.ensures ∙ not-false _ (ap not c.if-not-all_below.false), lt-ltb _ _ (rw c.step_count.ensures at c.if-room-step_count.true))
 
 pub returns : goal.returns
 returns c =
-    let test = c.before.before in
-    rw (sym test.all_below.ensures ∙ not-false _ (ap not test.if-not-all_below.false), le-ltb _ _ (rw c.step_count.ensures at c.if-room-step_count.false))
+    rw (sym c.all_below.ensures ∙ not-false _ (ap not c.if-not-all_below.false), le-ltb _ _ (rw c.step_count.ensures at c.if-room-step_count.false))

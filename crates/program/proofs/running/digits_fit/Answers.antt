@@ -36,9 +36,8 @@ loop-j-smaller c = omega arith
 
 pub loop-j-preserved : goal.loop-j-preserved
 loop-j-preserved c =
-    let turn = c in
     let a = c.args in
-    (omega arith, every-next (fits a.radices.now a.digits.now) turn.loop-j.j ∙ ap₂ ◌&&◌ turn.loop-j.invariant.1 (lt-ltb _ _ c.if-radices-j.false))
+    (omega arith, every-next (fits a.radices.now a.digits.now) c.loop-j.j ∙ ap₂ ◌&&◌ c.loop-j.invariant.1 (lt-ltb _ _ c.if-radices-j.false))
 
 pub returns : goal.returns
 unfolding digits_fit

@@ -73,7 +73,7 @@ clear-registers-requires c =
     (step-at c.args.plan c.args.steps.now c.loop-i.i c.requires.steps_value c.loop-i-test.true) in
     let to_inside : to_of c.args.steps.now c.loop-i.i < 69 =
     (omega (arith, facts.to_low, c.requires.within.variable-limit)) in
-    let r = c in (r.loop-i.invariant.size, to_inside)
+    (c.loop-i.invariant.size, to_inside)
 
 pub loop-i-smaller-then-kind-eq0 : goal.loop-i-smaller-then-kind-eq0
 loop-i-smaller-then-kind-eq0 c = omega arith
@@ -87,15 +87,13 @@ loop-i-preserved-then-kind-eq0 c =
     (omega (arith, facts.to_low, c.requires.within.variable-limit)) in
     let positive : 0 < c.args.plan.p =
     (omega (arith, prime-low c.requires.within)) in
-    let r = c in
-    running-clear _ _ _ _ r.loop-i.invariant r.loop-i-test.true to_inside _ c.clear-registers.ensures positive c.if-kind-eq0.true
+    running-clear _ _ _ _ c.loop-i.invariant c.loop-i-test.true to_inside _ c.clear-registers.ensures positive c.if-kind-eq0.true
 
 pub overflow_cast-by : goal.overflow_cast-by
 overflow_cast-by c =
     let facts : let steps = c.args.steps.now in
     let i = c.loop-i.i in StepFacts c.args.plan (kind_of steps i) (to_of steps i) (from_of steps i) (by_of steps i) =
     (step-at c.args.plan c.args.steps.now c.loop-i.i c.requires.steps_value c.loop-i-test.true) in
-    let r = c in
     omega (arith, facts.weight c.if-kind-eq1.true, prime-high c.requires.within)
 
 pub add-registers-requires : goal.add-registers-requires
@@ -107,11 +105,10 @@ add-registers-requires c =
     (omega (arith, facts.to_low, c.requires.within.variable-limit)) in
     let from-inside : from_of c.args.steps.now c.loop-i.i < 69 =
     (omega (arith, facts.from_low, c.requires.within.variable-limit)) in
-    let r = c in
-    let inv = r.loop-i.invariant in record {
+    let inv = c.loop-i.invariant in record {
       at_len = (inv.size, to_inside, from-inside);
       modulus = modulus c.requires.within;
-      m_value = (r.reciprocal-reciprocal.ensures, facts.weight c.if-kind-eq1.true, inv.residues);
+      m_value = (c.reciprocal-reciprocal.ensures, facts.weight c.if-kind-eq1.true, inv.residues);
     }
 
 pub loop-i-smaller-then-kind-eq1 : goal.loop-i-smaller-then-kind-eq1
@@ -126,15 +123,13 @@ loop-i-preserved-then-kind-eq1 c =
     (omega (arith, facts.to_low, c.requires.within.variable-limit)) in
     let positive : 0 < c.args.plan.p =
     (omega (arith, prime-low c.requires.within)) in
-    let r = c in
-    running-add _ _ _ _ r.loop-i.invariant r.loop-i-test.true to_inside _ c.add-registers.ensures positive c.if-kind-eq1.true
+    running-add _ _ _ _ c.loop-i.invariant c.loop-i-test.true to_inside _ c.add-registers.ensures positive c.if-kind-eq1.true
 
 pub overflow_cast-by-else-kind-eq1 : goal.overflow_cast-by-else-kind-eq1
 overflow_cast-by-else-kind-eq1 c =
     let facts : let steps = c.args.steps.now in
     let i = c.loop-i.i in StepFacts c.args.plan (kind_of steps i) (to_of steps i) (from_of steps i) (by_of steps i) =
     (step-at c.args.plan c.args.steps.now c.loop-i.i c.requires.steps_value c.loop-i-test.true) in
-    let r = c in
     omega (arith, (facts.table c.if-kind-eq0.false c.if-kind-eq1.false).1, c.requires.within.variable-limit)
 
 pub boot-registers-requires : goal.boot-registers-requires
@@ -146,10 +141,9 @@ boot-registers-requires c =
     (omega (arith, facts.to_low, c.requires.within.variable-limit)) in
     let from-inside : from_of c.args.steps.now c.loop-i.i < 69 =
     (omega (arith, facts.from_low, c.requires.within.variable-limit)) in
-    let r = c in
-    let inv = r.loop-i.invariant in
+    let inv = c.loop-i.invariant in
     let pre = c.requires in
-    let inverse = r.inverse-quarter in record {
+    let inverse = c.inverse-quarter in record {
       at_len = (inv.size, to_inside, from-inside);
       within = pre.within;
       tables_len = pre.tables_len.0;
@@ -171,8 +165,7 @@ loop-i-preserved c =
     (omega (arith, facts.to_low, c.requires.within.variable-limit)) in
     let positive : 0 < c.args.plan.p =
     (omega (arith, prime-low c.requires.within)) in
-    let r = c in
-    running-boot _ _ _ _ r.loop-i.invariant r.loop-i-test.true to_inside _ c.boot-registers.ensures
+    running-boot _ _ _ _ c.loop-i.invariant c.loop-i-test.true to_inside _ c.boot-registers.ensures
     (table-small c.args.plan c.args.tables.now _ _ positive c.requires.tables_len.1)
     (facts.table c.if-kind-eq0.false c.if-kind-eq1.false).0
 
@@ -187,6 +180,5 @@ bounds-registers-y c = omega (arith, c.loop-i.invariant.size, c.requires.within.
 
 pub returns : goal.returns
 returns c =
-    let ended = c in
-    let r = running-all _ _ _ _ ended.loop-i.invariant ended.loop-i-test.false in
+    let r = running-all _ _ _ _ c.loop-i.invariant c.loop-i-test.false in
     ap₂ (λ (y count : ℕ). gives (y ∷ count ∷ [])) r.0 r.1

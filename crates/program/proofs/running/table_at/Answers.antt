@@ -13,19 +13,19 @@ use Rattle.program.proofs.running.table_at.Goals as goal
 pub overflow_mul-place : goal.overflow_mul-place
 overflow_mul-place c =
     let inside : let a = c.args in a.k * a.plan.p + a.plan.p ≤ length a.tables.now =
-    (let s = c in table-room s.args.plan s.args.tables.now s.args.k s.requires.tables_len c.if-k-plan.true) in
+    (table-room c.args.plan c.args.tables.now c.args.k c.requires.tables_len c.if-k-plan.true) in
     omega (arith, inside)
 
 pub overflow_add-place : goal.overflow_add-place
 overflow_add-place c =
     let inside : let a = c.args in a.k * a.plan.p + a.plan.p ≤ length a.tables.now =
-    (let s = c in table-room s.args.plan s.args.tables.now s.args.k s.requires.tables_len c.if-k-plan.true) in
+    (table-room c.args.plan c.args.tables.now c.args.k c.requires.tables_len c.if-k-plan.true) in
     omega (arith, inside)
 
 pub bounds-tables-place : goal.bounds-tables-place
 bounds-tables-place c =
     let inside : let a = c.args in a.k * a.plan.p + a.plan.p ≤ length a.tables.now =
-    (let s = c in table-room s.args.plan s.args.tables.now s.args.k s.requires.tables_len c.if-k-plan.true) in
+    (table-room c.args.plan c.args.tables.now c.args.k c.requires.tables_len c.if-k-plan.true) in
     omega (arith, inside)
 
 pub returns-then-k-plan : goal.returns-then-k-plan
@@ -49,13 +49,11 @@ pub overflow_sub-result : goal.overflow_sub-result
 overflow_sub-result c =
     let positive : 0 < c.args.plan.p =
     (omega (arith, prime-low c.requires.within)) in
-    let r = c in
-    omega (arith, square-small c.args.plan.p c.args.z positive, r.square_at-r.ensures)
+    omega (arith, square-small c.args.plan.p c.args.z positive, c.square_at-r.ensures)
 
 pub returns : goal.returns
 returns c =
     let positive : 0 < c.args.plan.p =
     (omega (arith, prime-low c.requires.within)) in
-    let r = c in
-    minus-other c.args.plan.p _ _ positive r.square_at-r.ensures c.if-r-eq0.false
+    minus-other c.args.plan.p _ _ positive c.square_at-r.ensures c.if-r-eq0.false
     ∙ sym (table-minus _ _ _ _ (omega arith))

@@ -53,9 +53,8 @@ good_step-requires c = c.requires
 
 pub returns-then-not-good_step : goal.returns-then-not-good_step
 returns-then-not-good_step c =
-    let inside = c in
     let s = c.args in
-    sym (bad s.plan s.steps.now inside.loop-i.i inside.loop-i-test.true (sym c.good_step.ensures ∙ not-true _ (ap not c.if-not-good_step.true)))
+    sym (bad s.plan s.steps.now c.loop-i.i c.loop-i-test.true (sym c.good_step.ensures ∙ not-true _ (ap not c.if-not-good_step.true)))
 
 pub overflow_add-i : goal.overflow_add-i
 overflow_add-i c = omega arith
@@ -65,12 +64,10 @@ loop-i-smaller c = omega arith
 
 pub loop-i-preserved : goal.loop-i-preserved
 loop-i-preserved c =
-    let r = c in
     let s = c.args in
-    (omega arith, good-next s.plan s.steps.now r.loop-i.i r.loop-i.invariant.1 (sym c.good_step.ensures ∙ not-false _ (ap not c.if-not-good_step.false)))
+    (omega arith, good-next s.plan s.steps.now c.loop-i.i c.loop-i.invariant.1 (sym c.good_step.ensures ∙ not-false _ (ap not c.if-not-good_step.false)))
 
 pub returns : goal.returns
 returns c =
-    let r = c in
     let s = c.args in
-    sym (good s.plan s.steps.now r.loop-i.i r.if-steps-ne0.false r.loop-i.invariant.0 c.loop-i-test.false r.loop-i.invariant.1)
+    sym (good s.plan s.steps.now c.loop-i.i c.if-steps-ne0.false c.loop-i.invariant.0 c.loop-i-test.false c.loop-i.invariant.1)

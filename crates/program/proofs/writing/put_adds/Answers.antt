@@ -17,9 +17,8 @@ bounds-weights-j c = omega arith
 
 pub put_step-next-requires : goal.put_step-next-requires
 put_step-next-requires c =
-    let r = c in
     let ws = c.args.weights.now in
-    adds-room _ (at ws) r.loop-j.j (length ws) c.loop-j-test.true c.requires.room r.loop-j.invariant.1
+    adds-room _ (at ws) c.loop-j.j (length ws) c.loop-j-test.true c.requires.room c.loop-j.invariant.1
 
 pub overflow_add-j : goal.overflow_add-j
 overflow_add-j c = omega arith
@@ -29,9 +28,8 @@ loop-j-smaller c = omega arith
 
 pub loop-j-preserved : goal.loop-j-preserved
 loop-j-preserved c =
-    let r = c in
     let ws = c.args.weights.now in
-    (omega arith, adds-next _ (at ws) r.loop-j.j (length ws) c.loop-j-test.true c.requires.room r.loop-j.invariant.1 c.put_step-next.ensures)
+    (omega arith, adds-next _ (at ws) c.loop-j.j (length ws) c.loop-j-test.true c.requires.room c.loop-j.invariant.1 c.put_step-next.ensures)
 
 pub returns : goal.returns
 returns c =

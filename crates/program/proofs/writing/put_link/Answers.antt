@@ -42,10 +42,9 @@ put_sum-next-requires c =
     (link-split c.args.plan _ _ _ fits c.requires.start_value.0) in
     let room : Room c.args.out.now c.args.begin (total ++ last) =
     (subst (Room c.args.out.now c.args.begin) (sym split) c.requires.room) in
-    let s = c in
-    let e = cut-length s.args.weights.now s.args.start place fits in record {
-      weights_len_bound = omega (arith, e, s.requires.within.variable-limit, s.requires.start_value.1);
-      room = room-front s.args.out.now s.args.begin total last room;
+    let e = cut-length c.args.weights.now c.args.start place fits in record {
+      weights_len_bound = omega (arith, e, c.requires.within.variable-limit, c.requires.start_value.1);
+      room = room-front c.args.out.now c.args.begin total last room;
     }
 
 pub put_step-requires : goal.put_step-requires
@@ -62,7 +61,6 @@ put_step-requires c =
     (link-split c.args.plan _ _ _ fits c.requires.start_value.0) in
     let room : Room c.args.out.now c.args.begin (total ++ last) =
     (subst (Room c.args.out.now c.args.begin) (sym split) c.requires.room) in
-    let s = c in
     wrote-room total last room c.put_sum-next.ensures
 
 pub returns : goal.returns
@@ -79,6 +77,5 @@ returns c =
     (link-split c.args.plan _ _ _ fits c.requires.start_value.0) in
     let room : Room c.args.out.now c.args.begin (total ++ last) =
     (subst (Room c.args.out.now c.args.begin) (sym split) c.requires.room) in
-    let s = c in
     let sum = c.put_sum-next in
     wrote_as split (wrote_then total last room sum.ensures c.put_step.ensures)

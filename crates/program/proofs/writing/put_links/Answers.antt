@@ -17,13 +17,12 @@ pub put_link-next-requires : goal.put_link-next-requires
 put_link-next-requires c =
     let each : ℕ → List ℕ =
     (link_steps c.args.plan c.args.weights.now) in
-    let r = c in
     let pre = c.requires in
     let more = c.loop-k-test.true in record {
       within = pre.within;
       weights_len = pre.weights_len;
-      start_value = (r.loop-k.invariant.1, more);
-      room = next-room each r.loop-k.k c.args.plan.m more pre.room r.loop-k.invariant.2;
+      start_value = (c.loop-k.invariant.1, more);
+      room = next-room each c.loop-k.k c.args.plan.m more pre.room c.loop-k.invariant.2;
     }
 
 pub overflow_add-start : goal.overflow_add-start
@@ -31,8 +30,7 @@ overflow_add-start c = omega arith
 
 pub overflow_add-start-in-loop-k : goal.overflow_add-start-in-loop-k
 overflow_add-start-in-loop-k c =
-    let r = c in
-    omega (arith, link-room c.args.plan c.args.weights.now r.loop-k.start r.loop-k.k c.requires.weights_len r.loop-k.invariant.1 c.loop-k-test.true)
+    omega (arith, link-room c.args.plan c.args.weights.now c.loop-k.start c.loop-k.k c.requires.weights_len c.loop-k.invariant.1 c.loop-k-test.true)
 
 pub overflow_add-k : goal.overflow_add-k
 overflow_add-k c = omega arith
@@ -44,12 +42,11 @@ pub loop-k-preserved : goal.loop-k-preserved
 loop-k-preserved c =
     let each : ℕ → List ℕ =
     (link_steps c.args.plan c.args.weights.now) in
-    let r = c in
     let n = c.args.plan.n in
     let more = c.loop-k-test.true in (
       omega arith,
-      ap (λ (a : ℕ). a + (n + r.loop-k.k)) r.loop-k.invariant.1 ∙ sym (sum-next (λ j. n + j) r.loop-k.k),
-      wrote-next each r.loop-k.k c.args.plan.m more c.requires.room r.loop-k.invariant.2 c.put_link-next.ensures,
+      ap (λ (a : ℕ). a + (n + c.loop-k.k)) c.loop-k.invariant.1 ∙ sym (sum-next (λ j. n + j) c.loop-k.k),
+      wrote-next each c.loop-k.k c.args.plan.m more c.requires.room c.loop-k.invariant.2 c.put_link-next.ensures,
     )
 
 pub returns : goal.returns

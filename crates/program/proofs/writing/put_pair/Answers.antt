@@ -5,9 +5,5 @@ use Rattle.program.proofs.writing.put_pair.Goals as goal
 
 pub returns : goal.returns
 returns c =
-    let third = c.before.before in
-    let second = third.before.before.before.before in
-    let first = second.before.before.before.before in
-    let s = first.before.before.before in
-    let a = s.args in
-    wrote-3 (clear a.to) (add a.to a.u 1) (add a.to a.v a.by) s.requires first.put_step-first.ensures second.put_step-second.ensures third.put_step.ensures
+    let a = c.args in
+    wrote-3 (clear a.to) (add a.to a.u 1) (add a.to a.v a.by) c.requires c.put_step-first.ensures c.put_step-second.ensures c.put_step.ensures

@@ -72,7 +72,7 @@ put_sum-next-requires c =
     (product-split c.args.plan _ _ _ _ _ fits-d fits-beta begins c.variables-l.ensures) in
     let room : Room c.args.out.now c.args.begin (left ++ (right ++ last)) =
     (subst (Room c.args.out.now c.args.begin) (sym split) c.requires.room) in
-    let r = c in record {
+    record {
       weights_len_bound = short _ fits-beta;
       room = room-front c.args.out.now c.args.begin left (right ++ last) room;
     }

@@ -14,13 +14,12 @@ pub put_product-next-requires : goal.put_product-next-requires
 put_product-next-requires c =
     let each : ℕ → List ℕ =
     (product_steps c.args.plan c.args.d.now c.args.beta.now) in
-    let r = c in
     let pre = c.requires in
     let more = c.loop-i-test.true in record {
       within = pre.within;
       d_len = pre.d_len;
       i_lt_t = more;
-      room = next-room each r.loop-i.i c.args.plan.t more pre.room r.loop-i.invariant.1;
+      room = next-room each c.loop-i.i c.args.plan.t more pre.room c.loop-i.invariant.1;
     }
 
 pub overflow_add-i : goal.overflow_add-i
@@ -33,9 +32,8 @@ pub loop-i-preserved : goal.loop-i-preserved
 loop-i-preserved c =
     let each : ℕ → List ℕ =
     (product_steps c.args.plan c.args.d.now c.args.beta.now) in
-    let r = c in
     let more = c.loop-i-test.true in
-    (omega arith, wrote-next each r.loop-i.i c.args.plan.t more c.requires.room r.loop-i.invariant.1 c.put_product-next.ensures)
+    (omega arith, wrote-next each c.loop-i.i c.args.plan.t more c.requires.room c.loop-i.invariant.1 c.put_product-next.ensures)
 
 pub returns : goal.returns
 returns c =

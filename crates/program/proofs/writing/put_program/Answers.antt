@@ -61,7 +61,7 @@ put_links-next-requires c =
     (layout-split c.args.plan _ _ _ _ _ fits begins c.variables-l.ensures) in
     let room : Room c.args.out.now 0 (links ++ (cleared ++ (products ++ last))) =
     (subst (Room c.args.out.now 0) (sym split) c.requires.room) in
-    let r = c in record {
+    record {
       within = c.requires.within;
       weights_len = c.requires.weights_len;
       room = room-front c.args.out.now 0 links (cleared ++ (products ++ last)) room;

@@ -7,7 +7,5 @@ use Rattle.program.proofs.writing.put_sum.Goals as goal
 
 pub returns : goal.returns
 returns c =
-    let first = c.before.before.before.before.before.before in
-    let s = first.before.before.before.before in
-    let ws = s.args.weights.now in
-    wrote_then (clear s.args.to) (adds s.args.to (at ws) (length ws)) s.requires.room first.put_step-next.ensures c.put_adds.ensures
+    let ws = c.args.weights.now in
+    wrote_then (clear c.args.to) (adds c.args.to (at ws) (length ws)) c.requires.room c.put_step-next.ensures c.put_adds.ensures

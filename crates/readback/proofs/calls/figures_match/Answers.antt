@@ -5,17 +5,13 @@ use Rattle.readback.proofs.calls.figures_match.Goals as goal
 
 pub returns-then-found-plan : goal.returns-then-found-plan
 returns-then-found-plan c =
-    let s = c.before.before.before.before.before.before.before.before in
-    sym (first-other s.args.found.now _ _ _ s.requires.found_len c.if-found-plan.true)
+    sym (first-other c.args.found.now _ _ _ c.requires.found_len c.if-found-plan.true)
 
 pub returns-then-found-step_count : goal.returns-then-found-step_count
 returns-then-found-step_count c =
-    let s = c.before.before.before.before.before.before.before.before.before.before.before in
-    sym (second-other s.args.found.now _ _ _ s.requires.found_len (λ e. c.if-found-step_count.true (e ∙ sym c.step_count.ensures)))
+    sym (second-other c.args.found.now _ _ _ c.requires.found_len (λ e. c.if-found-step_count.true (e ∙ sym c.step_count.ensures)))
 
 pub returns : goal.returns
 returns c =
-    let second = c.before.before in
-    let s = second.before.before.before.before.before.before.before.before.before.before.before in
-    third-same s.args.found.now _ _ _ _ s.requires.found_len second.if-found-plan.false
-    (second.if-found-step_count.false ∙ second.step_count.ensures) c.worst.ensures
+    third-same c.args.found.now _ _ _ _ c.requires.found_len c.if-found-plan.false
+    (c.if-found-step_count.false ∙ c.step_count.ensures) c.worst.ensures

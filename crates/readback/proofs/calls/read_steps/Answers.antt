@@ -132,7 +132,6 @@ copy-requires c =
     let front : (e : List ℕ) → take c.columns-c.result (left ++ drop c.columns-c.result e) ≡ recovered P c.args.steps.now =
     (λ e. front-list e left c.columns-c.result left-size
     ∙ c.is_written.ensures.found_after (not-false c.is_written.result (ap not c.if-not-is_written.false))) in
-    let r = c in
     ap length (front _) ∙ recovered-length P c.args.steps.now ∙ sym (eqb-true _ _ admitted.own-fits)
 
 pub returns-in-Refused : goal.returns-in-Refused

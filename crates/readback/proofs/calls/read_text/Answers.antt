@@ -79,21 +79,17 @@ slice_bounds-is_written-end c =
 pub slice_bounds-is_written-end-in-Whole : goal.slice_bounds-is_written-end-in-Whole
 slice_bounds-is_written-end-in-Whole c =
     let P : Plan = c.args.plan in
-    let at-columns = c in
-    let r = c in
-    sym (length-take-le _ _ (columns-few P _ c.requires.within at-columns.columns-c.ensures))
+    sym (length-take-le _ _ (columns-few P _ c.requires.within c.columns-c.ensures))
 
 pub is_written-requires : goal.is_written-requires
 is_written-requires c =
     let P : Plan = c.args.plan in
-    let at-columns = c in
-    let r = c in
     let pre = c.requires in
-    let small = columns-few P _ pre.within at-columns.columns-c.ensures in record {
+    let small = columns-few P _ pre.within c.columns-c.ensures in record {
       within = pre.within;
       weights_len = pre.weights_len.0;
       d_len = pre.d_len.0;
-      found_len = length-take-le _ _ small ∙ at-columns.columns-c.ensures;
+      found_len = length-take-le _ _ small ∙ c.columns-c.ensures;
     }
 
 pub returns-then-not-is_written : goal.returns-then-not-is_written
@@ -141,7 +137,6 @@ slice_bounds-found-end-in-Whole c =
     (c.is_written.new.found) in
     let left-size : length left ≡ size =
     (c.is_written.auto.found ∙ length-take-le _ _ (columns-few P size c.requires.within c.columns-c.ensures)) in
-    let r = c in
     front-room _ left size left-size
 
 pub slice_bounds-figures_match-end : goal.slice_bounds-figures_match-end
@@ -152,7 +147,6 @@ slice_bounds-figures_match-end c =
     (c.is_written.new.found) in
     let left-size : length left ≡ size =
     (c.is_written.auto.found ∙ length-take-le _ _ (columns-few P size c.requires.within c.columns-c.ensures)) in
-    let r = c in
     front_length _ left size left-size
 
 pub figures_match-requires : goal.figures_match-requires
@@ -251,7 +245,6 @@ slice_bounds-found-end-in-Whole-2 c =
     (c.is_written.new.found) in
     let left-size : length left ≡ size =
     (c.is_written.auto.found ∙ length-take-le _ _ (columns-few P size c.requires.within c.columns-c.ensures)) in
-    let r = c in
     front-room _ left size left-size
 
 pub slice_bounds-copy-end : goal.slice_bounds-copy-end
@@ -262,7 +255,6 @@ slice_bounds-copy-end c =
     (c.is_written.new.found) in
     let left-size : length left ≡ size =
     (c.is_written.auto.found ∙ length-take-le _ _ (columns-few P size c.requires.within c.columns-c.ensures)) in
-    let r = c in
     front_length _ left size left-size
 
 pub copy-requires : goal.copy-requires
@@ -308,8 +300,7 @@ returns-in-Malformed c =
     (c.scan_text.new.figures) in
     let read-steps : List ℕ =
     (c.scan_text.new.steps) in
-    let r = c in
-    let bad = subst (λ (a : Scan). Scanned a text read-figures read-steps) c.in-Malformed.is r.scan_text.ensures in
+    let bad = subst (λ (a : Scan). Scanned a text read-figures read-steps) c.in-Malformed.is c.scan_text.ensures in
     clauses (answer-malformed P w d text beta c.in-Malformed.j bad.0 bad.1)
 
 pub returns-else-not-figures_match : goal.returns-else-not-figures_match
@@ -356,7 +347,6 @@ returns-else-not-figures_match c =
     let copied = c in
     let last = copied in
     let e = last in
-    let t = c in
     let r = c in
     let pre = c.requires in
     let good = known.0 in

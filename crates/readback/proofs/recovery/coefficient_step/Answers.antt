@@ -14,8 +14,7 @@ counted : (c : goal.After-step_count) →
     let b = c.args.b in
     first_product P + b * (2 * variables P + 12) + (P.t - b) * (2 * c.variables-l.result + 12) + c.variables-l.result ≡ c.step_count.result
 counted c =
-    let s = c.before.before in
-    rw (c.variables-l.ensures, c.step_count.ensures) (from_end s.args.plan s.args.b s.requires.b_le_t)
+    rw (c.variables-l.ensures, c.step_count.ensures) (from_end c.args.plan c.args.b c.requires.b_le_t)
 
 pub overflow_sub-begin : goal.overflow_sub-begin
 overflow_sub-begin c = omega (arith, counted c)

@@ -23,16 +23,14 @@ overflow_mul-end c = omega (arith, (program-room c.args.plan c.step_count-end.re
 
 pub returns-then-steps-end : goal.returns-then-steps-end
 returns-then-steps-end c =
-    let r = c in
     let a = c.args in record {
-      value = sym (written-unlike a.plan a.weights.now a.d.now a.steps.now (λ e. omega (arith, e, c.if-steps-end.true, r.step_count-end.ensures)));
+      value = sym (written-unlike a.plan a.weights.now a.d.now a.steps.now (λ e. omega (arith, e, c.if-steps-end.true, c.step_count-end.ensures)));
       found_after = λ e. absurd (false≢true e);
     }
 
 pub recover-requires : goal.recover-requires
 recover-requires c =
-    let r = c in
-    let whole : length c.args.steps.now ≡ 4 * step_count c.args.plan = omega (arith, c.if-steps-end.false, r.step_count-end.ensures) in record {
+    let whole : length c.args.steps.now ≡ 4 * step_count c.args.plan = omega (arith, c.if-steps-end.false, c.step_count-end.ensures) in record {
       within = c.requires.within;
       steps_len = whole;
       found_len = c.requires.found_len;
@@ -99,7 +97,6 @@ slice_bounds-again-end-2 c =
     let fits : 4 * c.step_count-end.result ≤ length c.steps_buffer-again.result =
     (let large : 17228 ≤ length c.steps_buffer-again.result = omega (arith, c.steps_buffer-again.ensures.value) in
     program-fits plan c.step_count-end.result c.requires.within c.step_count-end.ensures large) in
-    let r = c in
     program-front _ _ program _ fits filled c.put_program.ensures
 
 pub slice_bounds-same_numbers-end : goal.slice_bounds-same_numbers-end
@@ -113,7 +110,6 @@ slice_bounds-same_numbers-end c =
     let fits : 4 * c.step_count-end.result ≤ length c.steps_buffer-again.result =
     (let large : 17228 ≤ length c.steps_buffer-again.result = omega (arith, c.steps_buffer-again.ensures.value) in
     program-fits plan c.step_count-end.result c.requires.within c.step_count-end.ensures large) in
-    let r = c in
     program-length _ _ program _ fits filled c.put_program.ensures
 
 pub returns : goal.returns

@@ -22,8 +22,7 @@ variables-l-requires c = c.requires.within
 
 pub loop-b-init : goal.loop-b-init
 loop-b-init c =
-    let s = c in
-    (rows_none s.args.plan s.args.steps.now s.args.found.now s.requires.found_len, omega arith, omega arith)
+    (rows_none c.args.plan c.args.steps.now c.args.found.now c.requires.found_len, omega arith, omega arith)
 
 pub coefficient_step-begin-requires : goal.coefficient_step-begin-requires
 coefficient_step-begin-requires c =
@@ -70,11 +69,9 @@ recover_row-requires c =
     (let loop = c.loop-b in
     let P = c.args.plan in
     omega (arith, loop.invariant.1, loop.invariant.0.size, c.variables-l.ensures, mul-le-mul_right (variables P) is_row)) in
-    let then = c in
-    let r = c in
     let P = c.args.plan in
-    let part = cut-length r.loop-b.found r.loop-b.from size room in
-    omega (arith, part, r.variables-l.ensures, c.coefficient_step-begin.ensures, row_room P r.loop-b.b is_row, c.requires.steps_len)
+    let part = cut-length c.loop-b.found c.loop-b.from size room in
+    omega (arith, part, c.variables-l.ensures, c.coefficient_step-begin.ensures, row_room P c.loop-b.b is_row, c.requires.steps_len)
 
 pub returns-then-not-recover_row : goal.returns-then-not-recover_row
 returns-then-not-recover_row c =
@@ -94,10 +91,8 @@ returns-then-not-recover_row c =
     c.coefficient_step-begin.ensures) in
     let read : c.recover_row.result ≡ all_below plan.p (row_of plan steps c.loop-b.b) =
     (c.recover_row.ensures.value ∙ ap (all_below plan.p) asked) in
-    let called = c in
-    let r = c in
-    let none = sym read ∙ not-true called.recover_row.result (ap not c.if-not-recover_row.true) in record {
-      value = sym (rows-refuted c.args.plan c.args.steps.now r.loop-b.b is_row none);
+    let none = sym read ∙ not-true c.recover_row.result (ap not c.if-not-recover_row.true) in record {
+      value = sym (rows-refuted c.args.plan c.args.steps.now c.loop-b.b is_row none);
       found_after = λ e. absurd (false≢true e);
     }
 
@@ -130,24 +125,21 @@ loop-b-preserved c =
     let back : (put_mid c.loop-b.from (c.loop-b.from + size - c.loop-b.from) c.loop-b.found row ≡ placed c.loop-b.found c.loop-b.from row)
     × (length (placed c.loop-b.found c.loop-b.from row) ≡ length c.loop-b.found) =
     (part-back c.loop-b.found row c.loop-b.from size room c.recover_row.auto.row) in
-    let called = c in
-    let r = c in
     let a = c.args in
-    let inv = r.loop-b.invariant in
-    let yes = not-false called.recover_row.result (ap not c.if-not-recover_row.false) in
-    let list = called.recover_row.ensures.row_after yes ∙ asked in
-    let place : r.loop-b.from ≡ r.loop-b.b * variables a.plan = inv.1 in (
+    let inv = c.loop-b.invariant in
+    let yes = not-false c.recover_row.result (ap not c.if-not-recover_row.false) in
+    let list = c.recover_row.ensures.row_after yes ∙ asked in
+    let place : c.loop-b.from ≡ c.loop-b.b * variables a.plan = inv.1 in (
       rows_next a.plan a.steps.now inv.0 _ is_row (ap length back.0 ∙ back.1 ∙ inv.0.size)
-          (back.0 ∙ ap₂ (placed r.loop-b.found) place list) (sym read ∙ yes),
-      omega (arith, place, r.variables-l.ensures),
+          (back.0 ∙ ap₂ (placed c.loop-b.found) place list) (sym read ∙ yes),
+      omega (arith, place, c.variables-l.ensures),
       omega (arith, is_row),
     )
 
 pub returns : goal.returns
 returns c =
-    let r = c in
     let a = c.args in
-    let all = rows_all a.plan a.steps.now r.loop-b.invariant.0 (omega (arith, r.loop-b.invariant.2, c.loop-b-test.false)) in record {
+    let all = rows_all a.plan a.steps.now c.loop-b.invariant.0 (omega (arith, c.loop-b.invariant.2, c.loop-b-test.false)) in record {
       value = sym all.0;
       found_after = λ _. all.1;
     }

@@ -34,8 +34,7 @@ loop-i-smaller c = omega arith
 
 pub loop-i-preserved : goal.loop-i-preserved
 loop-i-preserved c =
-    let r = c in
-    let loop = r.loop-i in
+    let loop = c.loop-i in
     let xs = c.args.xs.now in
     let ys = c.args.ys.now in
     let here : Bool → Bool = (λ t. loop.equal && t) in
@@ -49,6 +48,5 @@ loop-i-preserved c =
 
 pub returns : goal.returns
 returns c =
-    let r = c in
-    let end = same_end c.args.xs.now c.args.ys.now r.loop-i.i c.if-xs-ys.false (omega arith) in
-    sym (r.loop-i.invariant.1 ∙ ap (λ (t : Bool). r.loop-i.equal && t) end ∙ and-true r.loop-i.equal)
+    let end = same_end c.args.xs.now c.args.ys.now c.loop-i.i c.if-xs-ys.false (omega arith) in
+    sym (c.loop-i.invariant.1 ∙ ap (λ (t : Bool). c.loop-i.equal && t) end ∙ and-true c.loop-i.equal)

@@ -35,9 +35,8 @@ overflow_add-result-then-number-gt65535 c = omega arith
 
 pub returns-then-number-gt65535 : goal.returns-then-number-gt65535
 returns-then-number-gt65535 c =
-    let r = c in
     let a = c.args in
-    let none = wide-number a.v.now a.steps.now a.count r.loop-i.i c.loop-i-test.true (omega (arith, c.if-number-gt65535.true)) in record {
+    let none = wide-number a.v.now a.steps.now a.count c.loop-i.i c.loop-i-test.true (omega (arith, c.if-number-gt65535.true)) in record {
       value = rw none;
       steps_after = λ t. absurd (false≢true (sym none ∙ t));
     }
@@ -58,8 +57,7 @@ offset_bounds-steps-count c =
 pub bounds-steps-count : goal.bounds-steps-count
 bounds-steps-count c =
     let room : c.args.count + length c.args.v.now ≤ length c.args.steps.now = c.if-room-end.false in
-    let r = c in
-    omega (arith, room, r.loop-i.invariant.size, c.loop-i-test.true)
+    omega (arith, room, c.loop-i.invariant.size, c.loop-i-test.true)
 
 pub overflow_add-i : goal.overflow_add-i
 overflow_add-i c = omega arith
@@ -70,17 +68,15 @@ loop-i-smaller c = omega arith
 pub loop-i-preserved : goal.loop-i-preserved
 loop-i-preserved c =
     let room : c.args.count + length c.args.v.now ≤ length c.args.steps.now = c.if-room-end.false in
-    let r = c in
     let a = c.args in
-    let small : at a.v.now r.loop-i.i < 65536 = omega (arith, c.if-number-gt65535.false) in
-    putting-next a.v.now a.steps.now a.count room r.loop-i.invariant c.loop-i-test.true small
+    let small : at a.v.now c.loop-i.i < 65536 = omega (arith, c.if-number-gt65535.false) in
+    putting-next a.v.now a.steps.now a.count room c.loop-i.invariant c.loop-i-test.true small
 
 pub returns : goal.returns
 returns c =
     let room : c.args.count + length c.args.v.now ≤ length c.args.steps.now = c.if-room-end.false in
-    let r = c in
     let a = c.args in
-    let all = putting-all a.v.now a.steps.now a.count room r.loop-i.invariant (omega (arith, c.loop-i-test.false)) in record {
+    let all = putting-all a.v.now a.steps.now a.count room c.loop-i.invariant (omega (arith, c.loop-i-test.false)) in record {
       value = rw all.0;
       steps_after = λ _. all.1;
     }

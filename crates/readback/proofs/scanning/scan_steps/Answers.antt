@@ -54,9 +54,8 @@ returns-then-not-read_line c =
     (reached-end c.loop-at.invariant.0.reached _ c.piece_end-end.ensures c.if-end-text.false) in
     let fits : c.read_line.result ≡ asks 5 4 (piece 10 text place) =
     (c.read_line.ensures.0 ∙ ap (asks 5 4) line) in
-    let read = c in
     let s = c.loop-at.invariant.0 in
-    let none = step_fits _ _ s.late ∙ sym fits ∙ not-true read.read_line.result (ap not c.if-not-read_line.true) in
+    let none = step_fits _ _ s.late ∙ sym fits ∙ not-true c.read_line.result (ap not c.if-not-read_line.true) in
     (reached-bad s.reached _ c.piece_end-end.ensures whole none, omega (arith, s.late))
 
 pub slice_bounds-keep_step-end : goal.slice_bounds-keep_step-end
@@ -64,9 +63,8 @@ slice_bounds-keep_step-end c = sym c.read_line.auto.out
 
 pub keep_step-count-requires : goal.keep_step-count-requires
 keep_step-count-requires c =
-    let read = c in
     let loop = c.loop-at in record {
-      v_len = read.read_line.auto.out;
+      v_len = c.read_line.auto.out;
       count_in_bounds = kept-few loop.invariant.0.read _ _ loop.invariant.0.kept;
     }
 
@@ -80,13 +78,11 @@ overflow_add-at c =
 
 pub overflow_add-j : goal.overflow_add-j
 overflow_add-j c =
-    let r = c in
-    omega (arith, r.loop-at.invariant.0.small, r.loop-at.invariant.0.reached.inside)
+    omega (arith, c.loop-at.invariant.0.small, c.loop-at.invariant.0.reached.inside)
 
 pub loop-at-smaller : goal.loop-at-smaller
 loop-at-smaller c =
-    let r = c in
-    omega (arith, r.piece_end-end.ensures, r.loop-at-test.true)
+    omega (arith, c.piece_end-end.ensures, c.loop-at-test.true)
 
 pub loop-at-preserved : goal.loop-at-preserved
 loop-at-preserved c =
@@ -100,13 +96,11 @@ loop-at-preserved c =
     (c.read_line.ensures.0 ∙ ap (asks 5 4) line) in
     let found : c.read_line.result ≡ true → c.read_line.new.out ≡ numbers (piece 10 text place) =
     (λ e. c.read_line.ensures.1 e ∙ ap numbers line) in
-    let read = c in
-    let r = c in
-    let s = r.loop-at.invariant in
-    let yes = not-false read.read_line.result (ap not c.if-not-read_line.false) in
+    let s = c.loop-at.invariant in
+    let yes = not-false c.read_line.result (ap not c.if-not-read_line.false) in
     let keep = c.keep_step-count in
-    let kept = kept_next s.0.read read.read_line.new.out _ keep.new.steps _ keep.result keep.auto.steps keep.ensures.value keep.ensures.steps_after s.0.kept in (
-      scanning-next s.0 _ r.piece_end-end.ensures whole (sym fits ∙ yes) _ _
+    let kept = kept_next s.0.read c.read_line.new.out _ keep.new.steps _ keep.result keep.auto.steps keep.ensures.value keep.ensures.steps_after s.0.kept in (
+      scanning-next s.0 _ c.piece_end-end.ensures whole (sym fits ∙ yes) _ _
           (subst (λ (v : List ℕ). Kept (s.0.read ++ v) keep.new.steps keep.result) (found yes) kept),
       keep.auto.steps ∙ s.1,
     )

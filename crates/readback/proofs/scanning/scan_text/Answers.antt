@@ -20,8 +20,7 @@ use Rattle.readback.proofs.scanning.scan_text.Goals as goal
 pub returns-then-first-text : goal.returns-then-first-text
 returns-then-first-text c =
     let text : List ℕ = c.args.text.now in
-    let r = c in
-    (head-start text ∙ reached-missing (reached-start text 0 1 (omega arith)) _ r.piece_end-first.ensures c.if-first-text.true (λ h. absurd (omega arith)), omega arith)
+    (head-start text ∙ reached-missing (reached-start text 0 1 (omega arith)) _ c.piece_end-first.ensures c.if-first-text.true (λ h. absurd (omega arith)), omega arith)
 
 pub slice_bounds-same-end : goal.slice_bounds-same-end
 slice_bounds-same-end c =
@@ -44,9 +43,8 @@ returns-then-not-same c =
     let fits1 : line_fits 1 (piece 10 t1 0) ≡ same (take e1 t1) figure_words =
     (let line = ap (λ (n : ℕ). take n t1) (sym (sub-zero e1)) ∙ piece-part 10 t1 0 e1 c.piece_end-first.ensures in
     first-names (piece 10 t1 0) ∙ ap (λ (xs : List ℕ). same xs figure_words) (sym line)) in
-    let r = c in
     let other = fits1 ∙ sym c.same.ensures ∙ not-true c.same.result (ap not c.if-not-same.true) in
-    (head-start t1 ∙ reached-bad (reached-start t1 0 1 (omega arith)) e1 r.piece_end-first.ensures l1 other, omega arith)
+    (head-start t1 ∙ reached-bad (reached-start t1 0 1 (omega arith)) e1 c.piece_end-first.ensures l1 other, omega arith)
 
 pub overflow_add-at : goal.overflow_add-at
 overflow_add-at c =
@@ -73,8 +71,7 @@ returns-then-second-text c =
     (let compared = c.same in
     let first = reached-start t1 0 1 (omega arith) in
     reached-next first e1 c.piece_end-first.ensures l1 (fits1 ∙ sym compared.ensures ∙ not-false compared.result (ap not c.if-not-same.false))) in
-    let r = c in
-    (head-start t1 ∙ reached-missing reached2 _ r.piece_end-second.ensures c.if-second-text.true (λ h. absurd (omega arith)), omega arith)
+    (head-start t1 ∙ reached-missing reached2 _ c.piece_end-second.ensures c.if-second-text.true (λ h. absurd (omega arith)), omega arith)
 
 pub slice_bounds-read_line-end : goal.slice_bounds-read_line-end
 slice_bounds-read_line-end c =
@@ -184,8 +181,7 @@ returns-then-third-text c =
     let three = c.requires in
     sym (c.read_line.ensures.0 ∙ ap (λ (n : ℕ). asks 7 n (take (e2 - begin) (drop begin t2))) three ∙ ap (asks 7 3) line2)) in
     let reached3 : Reached t2 0 1 (e2 + 1) 3 =
-    (let read = c in
-    reached-next reached2 e2 c.piece_end-second.ensures l2 (fits2 ∙ not-false read.read_line.result (ap not c.if-not-read_line.false))) in
+    (reached-next reached2 e2 c.piece_end-second.ensures l2 (fits2 ∙ not-false c.read_line.result (ap not c.if-not-read_line.false))) in
     let r = c in
     (head-start t2 ∙ reached-missing reached3 _ r.piece_end-third.ensures c.if-third-text.true (λ h. absurd (omega arith)), omega arith)
 
@@ -219,8 +215,7 @@ slice_bounds-same-end-3 c =
     let three = c.requires in
     sym (c.read_line.ensures.0 ∙ ap (λ (n : ℕ). asks 7 n (take (e2 - begin) (drop begin t2))) three ∙ ap (asks 7 3) line2)) in
     let reached3 : Reached t2 0 1 (e2 + 1) 3 =
-    (let read = c in
-    reached-next reached2 e2 c.piece_end-second.ensures l2 (fits2 ∙ not-false read.read_line.result (ap not c.if-not-read_line.false))) in
+    (reached-next reached2 e2 c.piece_end-second.ensures l2 (fits2 ∙ not-false c.read_line.result (ap not c.if-not-read_line.false))) in
     let t3 : List ℕ = t2 in
     let e3 : ℕ =
     (c.piece_end-third.result) in
@@ -258,8 +253,7 @@ returns-then-not-same-2 c =
     let three = c.requires in
     sym (c.read_line.ensures.0 ∙ ap (λ (n : ℕ). asks 7 n (take (e2 - begin) (drop begin t2))) three ∙ ap (asks 7 3) line2)) in
     let reached3 : Reached t2 0 1 (e2 + 1) 3 =
-    (let read = c in
-    reached-next reached2 e2 c.piece_end-second.ensures l2 (fits2 ∙ not-false read.read_line.result (ap not c.if-not-read_line.false))) in
+    (reached-next reached2 e2 c.piece_end-second.ensures l2 (fits2 ∙ not-false c.read_line.result (ap not c.if-not-read_line.false))) in
     let t3 : List ℕ = t2 in
     let third : ℕ =
     (e2 + 1) in
@@ -304,8 +298,7 @@ overflow_add-third c =
     let three = c.requires in
     sym (c.read_line.ensures.0 ∙ ap (λ (n : ℕ). asks 7 n (take (e2 - begin) (drop begin t2))) three ∙ ap (asks 7 3) line2)) in
     let reached3 : Reached t2 0 1 (e2 + 1) 3 =
-    (let read = c in
-    reached-next reached2 e2 c.piece_end-second.ensures l2 (fits2 ∙ not-false read.read_line.result (ap not c.if-not-read_line.false))) in
+    (reached-next reached2 e2 c.piece_end-second.ensures l2 (fits2 ∙ not-false c.read_line.result (ap not c.if-not-read_line.false))) in
     let t3 : List ℕ = t2 in
     let e3 : ℕ =
     (c.piece_end-third.result) in
@@ -343,8 +336,7 @@ scan_steps-requires c =
     let three = c.requires in
     sym (c.read_line.ensures.0 ∙ ap (λ (n : ℕ). asks 7 n (take (e2 - begin) (drop begin t2))) three ∙ ap (asks 7 3) line2)) in
     let reached3 : Reached t2 0 1 (e2 + 1) 3 =
-    (let read = c in
-    reached-next reached2 e2 c.piece_end-second.ensures l2 (fits2 ∙ not-false read.read_line.result (ap not c.if-not-read_line.false))) in
+    (reached-next reached2 e2 c.piece_end-second.ensures l2 (fits2 ∙ not-false c.read_line.result (ap not c.if-not-read_line.false))) in
     let t3 : List ℕ = t2 in
     let e3 : ℕ =
     (c.piece_end-third.result) in

@@ -66,7 +66,6 @@ entries-requires c =
     given a.p a.s a.n a.m a.t a.radices.now a.weights.now a.tables.now a.d.now) in
     let admitted : Admitted lent (Store (length c.args.store.now)) c.in-Accepted.plan =
     (admission _ _ (sym c.admit.ensures ∙ ap answer_of c.in-Accepted.is)) in
-    let r = c in
     admitted.lent.radices
 
 pub returns-then-entries-entry : goal.returns-then-entries-entry
@@ -104,7 +103,6 @@ returns-then-plan-value c =
     let near : let a = c.args in
     a.entry < product a.radices.now =
     (rw c.entries.ensures at c.if-entries-entry.false) in
-    let ranged = c in
     let a = admitted in
     clauses (refused-call _ 8 _ _ _ (sym (a.rest _ ∙ rw (passing, lt-ltb _ _ near, le-ltb _ _ c.if-plan-value.true))) (omega arith))
 
@@ -122,7 +120,6 @@ file_entry-requires c =
     let passing : let Q = c.in-Accepted.plan in
     is_reduced Q.p (columns Q) (cells (columns Q) c.args.store.now) ≡ true =
     (sym sound ∙ not-false c.is_reduced.result (ap not c.if-not-is_reduced.false)) in
-    let tested = c in
     let a = admitted in record {
       within = a.within;
       lent = a.lent;

@@ -50,15 +50,13 @@ pub clear_row-requires : goal.clear_row-requires
 clear_row-requires c =
     let row : RowAt c.args.c c.loop-r.store c.loop-r.r c.loop-r.begin =
     (clears-at c.requires.ready.reduced c.requires.line c.requires.k_lt_c c.loop-r.invariant c.loop-r-test.true) in
-    let turn = c in
-    let s = c in
-    let pos : 0 < s.args.p = omega (arith, s.requires.ready.modulus.0) in
-    let tail = tail-length row (le_of_lt turn.loop-r-test.true) (le_of_lt s.requires.k_lt_c) in record {
-      modulus = s.requires.ready.modulus;
-      pivot_len = (cut-length s.requires.ready.reduced s.requires.line s.requires.k_lt_c ∙ sym tail, omega (arith, tail));
+    let pos : 0 < c.args.p = omega (arith, c.requires.ready.modulus.0) in
+    let tail = tail-length row (le_of_lt c.loop-r-test.true) (le_of_lt c.requires.k_lt_c) in record {
+      modulus = c.requires.ready.modulus;
+      pivot_len = (cut-length c.requires.ready.reduced c.requires.line c.requires.k_lt_c ∙ sym tail, omega (arith, tail));
       residues = (
-        cleared-residues s.requires.ready.reduced s.requires.line s.requires.k_lt_c turn.loop-r.invariant turn.loop-r-test.true pos,
-        part-each (λ (x : ℕ). x < s.args.p) s.args.pivot.now s.args.k (s.args.c + 1 - s.args.k) pos s.requires.line.residues,
+        cleared-residues c.requires.ready.reduced c.requires.line c.requires.k_lt_c c.loop-r.invariant c.loop-r-test.true pos,
+        part-each (λ (x : ℕ). x < c.args.p) c.args.pivot.now c.args.k (c.args.c + 1 - c.args.k) pos c.requires.line.residues,
       );
     }
 
@@ -79,9 +77,8 @@ loop-r-smaller c = omega arith
 
 pub loop-r-preserved : goal.loop-r-preserved
 loop-r-preserved c =
-    let turn = c in
     let pre = c.requires in
-    cleared-next pre.ready.reduced pre.line pre.k_lt_c turn.loop-r.invariant turn.loop-r-test.true pre.by_index _ c.clear_row.ensures
+    cleared-next pre.ready.reduced pre.line pre.k_lt_c c.loop-r.invariant c.loop-r-test.true pre.by_index _ c.clear_row.ensures
 
 pub returns : goal.returns
 returns c = record {

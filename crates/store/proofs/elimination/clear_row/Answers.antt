@@ -5,8 +5,7 @@ use Rattle.store.proofs.elimination.clear_row.Goals as goal
 
 pub returns-then-f-eq0 : goal.returns-then-f-eq0
 returns-then-f-eq0 c =
-    let s = c.before.before.before.before in
-    clear_none _ _ s.args.pivot.now s.requires.residues.0 c.if-f-eq0.true
+    clear_none _ _ c.args.pivot.now c.requires.residues.0 c.if-f-eq0.true
 
 pub overflow_sub-p : goal.overflow_sub-p
 overflow_sub-p c =

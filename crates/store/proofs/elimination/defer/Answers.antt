@@ -13,9 +13,9 @@ slice_bounds-defer_short-end c =
 
 pub defer_short-requires : goal.defer_short-requires
 defer_short-requires c =
-    let s = c.before.before.before.before.before.before in record {
-      ready = s.requires.ready;
-      line = s.requires.line;
-      acc_value = s.requires.acc_value;
-      short_value = zeros-front 1025 (s.args.c + 1) (omega arith);
+    record {
+      ready = c.requires.ready;
+      line = c.requires.line;
+      acc_value = c.requires.acc_value;
+      short_value = zeros-front 1025 (c.args.c + 1) (omega arith);
     }

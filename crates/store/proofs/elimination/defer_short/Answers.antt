@@ -14,9 +14,9 @@ pub accumulate-requires : goal.accumulate-requires
 accumulate-requires c =
     let zeros : (length c.args.acc.now ≡ c.args.c + 1) × (length c.args.short.now ≡ c.args.c + 1) =
     ((ap length c.requires.acc_value ∙ tab-length (c.args.c + 1) (λ _. 0), ap length c.requires.short_value ∙ tab-length (c.args.c + 1) (λ _. 0))) in
-    let s = c in record {
-      ys_len = s.requires.line.places ∙ sym zeros.0;
-      headroom = λ i. omega (arith, all-zero (s.args.c + 1) _ s.requires.acc_value i);
+    record {
+      ys_len = c.requires.line.places ∙ sym zeros.0;
+      headroom = λ i. omega (arith, all-zero (c.args.c + 1) _ c.requires.acc_value i);
     }
 
 pub overflow_mul-rows : goal.overflow_mul-rows
@@ -34,9 +34,8 @@ overflow_add-width c = omega arith
 
 pub loop-q-init : goal.loop-q-init
 loop-q-init c =
-    let s = c in
-    let r = rows_fit s.args.p s.requires.ready.modulus in
-    (held_none _ _ _ _ s.requires.acc_value c.accumulate.ensures s.requires.short_value r.1, r.0, r.1)
+    let r = rows_fit c.args.p c.requires.ready.modulus in
+    (held_none _ _ _ _ c.requires.acc_value c.accumulate.ensures c.requires.short_value r.1, r.0, r.1)
 
 pub make_room-left-requires : goal.make_room-left-requires
 make_room-left-requires c =
@@ -50,32 +49,27 @@ pub overflow_add-a : goal.overflow_add-a
 overflow_add-a c =
     let row : RowAt c.args.c c.args.store.now c.loop-q.q c.loop-q.begin =
     (row_at c.requires.ready c.requires.line c.loop-q.invariant.0.both c.loop-q-test.true) in
-    let turn = c in
     omega (arith, row_fits row)
 
 pub overflow_add-end : goal.overflow_add-end
 overflow_add-end c =
     let row : RowAt c.args.c c.args.store.now c.loop-q.q c.loop-q.begin =
     (row_at c.requires.ready c.requires.line c.loop-q.invariant.0.both c.loop-q-test.true) in
-    let turn = c in
     omega (arith, row_fits row)
 
 pub bounds-e-q : goal.bounds-e-q
 bounds-e-q c =
-    let turn = c in
     omega (arith, c.requires.line.places)
 
 pub bounds-store-a : goal.bounds-store-a
 bounds-store-a c =
     let row : RowAt c.args.c c.args.store.now c.loop-q.q c.loop-q.begin =
     (row_at c.requires.ready c.requires.line c.loop-q.invariant.0.both c.loop-q-test.true) in
-    let turn = c in
     omega (arith, row_fits row)
 
 pub factor-g-requires : goal.factor-g-requires
 factor-g-requires c =
-    let turn = c in
-    c.requires.line.residues turn.loop-q.q
+    c.requires.line.residues c.loop-q.q
 
 pub offset_bounds-short-q : goal.offset_bounds-short-q
 offset_bounds-short-q c = omega arith
@@ -93,7 +87,6 @@ slice_bounds-accumulate_short-end c =
     Held args.p args.c args.store.now args.e.now loop.q loop.begin c.make_room-left.result c.make_room-left.new.acc c.make_room-left.new.short × (0 < c.make_room-left.result) =
     (let loop = c.loop-q in
     held-room loop.invariant.0 _ _ _ _ loop.invariant.1 loop.invariant.2 c.make_room-left.ensures) in
-    let r = c in
     omega (arith, held.0.narrow)
 
 pub slice_bounds-accumulate_short-count-in-loop-q : goal.slice_bounds-accumulate_short-count-in-loop-q
@@ -106,7 +99,6 @@ pub slice_bounds-accumulate_short-end-in-loop-q : goal.slice_bounds-accumulate_s
 slice_bounds-accumulate_short-end-in-loop-q c =
     let row : RowAt c.args.c c.args.store.now c.loop-q.q c.loop-q.begin =
     (row_at c.requires.ready c.requires.line c.loop-q.invariant.0.both c.loop-q-test.true) in
-    let turn = c in
     row_fits row
 
 pub accumulate_short-requires : goal.accumulate_short-requires
@@ -120,11 +112,10 @@ accumulate_short-requires c =
     held-room loop.invariant.0 _ _ _ _ loop.invariant.1 loop.invariant.2 c.make_room-left.ensures) in
     let roomy = c in
     let turn = roomy in
-    let s = c in
     let w = held in
     let l = turn.loop-q-test.true in record {
-      ys_len = tail-length row (le_refl _) (le_of_lt l) ∙ sym (part_length _ turn.loop-q.q (s.args.c + 1 - turn.loop-q.q) (omega (arith, w.0.narrow)));
-      by_index = held_fits w.0 s.requires.ready s.requires.line l _ c.factor-g.ensures w.1;
+      ys_len = tail-length row (le_refl _) (le_of_lt l) ∙ sym (part_length _ turn.loop-q.q (c.args.c + 1 - turn.loop-q.q) (omega (arith, w.0.narrow)));
+      by_index = held_fits w.0 c.requires.ready c.requires.line l _ c.factor-g.ensures w.1;
     }
 
 pub overflow_sub-left : goal.overflow_sub-left
@@ -134,7 +125,6 @@ overflow_sub-left c =
     Held args.p args.c args.store.now args.e.now loop.q loop.begin c.make_room-left.result c.make_room-left.new.acc c.make_room-left.new.short × (0 < c.make_room-left.result) =
     (let loop = c.loop-q in
     held-room loop.invariant.0 _ _ _ _ loop.invariant.1 loop.invariant.2 c.make_room-left.ensures) in
-    let roomy = c in
     omega (arith, held.1)
 
 pub overflow_sub-begin : goal.overflow_sub-begin
@@ -178,8 +168,7 @@ pour-requires c =
 pub returns : goal.returns
 returns c =
     let pour = c.pour in
-    let left = c in
-    let w = left.loop-q.invariant.0 in record {
-      acc_after = held_all w left.loop-q-test.false _ pour.ensures.acc_after;
+    let w = c.loop-q.invariant.0 in record {
+      acc_after = held_all w c.loop-q-test.false _ pour.ensures.acc_after;
       short_after = pour.ensures.short_after ∙ ap (λ (n : ℕ). tab n (λ _. 0)) w.narrow;
     }

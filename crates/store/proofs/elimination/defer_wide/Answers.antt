@@ -14,9 +14,9 @@ pub accumulate-requires : goal.accumulate-requires
 accumulate-requires c =
     let zeros : length c.args.acc.now ≡ c.args.c + 1 =
     (ap length c.requires.acc_value ∙ tab-length (c.args.c + 1) (λ _. 0)) in
-    let s = c in record {
-      ys_len = s.requires.line.places ∙ sym zeros;
-      headroom = λ i. omega (arith, all-zero (s.args.c + 1) _ s.requires.acc_value i);
+    record {
+      ys_len = c.requires.line.places ∙ sym zeros;
+      headroom = λ i. omega (arith, all-zero (c.args.c + 1) _ c.requires.acc_value i);
     }
 
 pub overflow_add-width : goal.overflow_add-width
@@ -24,8 +24,7 @@ overflow_add-width c = omega arith
 
 pub loop-q-init : goal.loop-q-init
 loop-q-init c =
-    let s = c in
-    subtracted-none _ _ s.requires.acc_value c.accumulate.ensures
+    subtracted-none _ _ c.requires.acc_value c.accumulate.ensures
 
 pub overflow_add-a : goal.overflow_add-a
 overflow_add-a c =
@@ -81,13 +80,11 @@ pub accumulate-requires-in-loop-q : goal.accumulate-requires-in-loop-q
 accumulate-requires-in-loop-q c =
     let row : RowAt c.args.c c.args.store.now c.loop-q.q c.loop-q.begin =
     (row_at c.requires.ready c.requires.line c.loop-q.invariant.0 c.loop-q-test.true) in
-    let turn = c in
-    let s = c in
-    let loop = turn.loop-q in record {
-      ys_len = tail-length row (le_refl _) (le_of_lt turn.loop-q-test.true)
-          ∙ sym (part_length loop.acc loop.q (s.args.c + 1 - loop.q) (omega (arith, loop.invariant.1)));
-      headroom = part-each (λ (x : ℕ). x + 65025 < 4294967296) loop.acc loop.q (s.args.c + 1 - loop.q) (omega arith)
-          (subtracted-room s.requires.ready s.requires.line loop.invariant.0 65025 (omega arith) loop.acc loop.invariant.1 (λ j k. le_refl (at loop.acc j)));
+    let loop = c.loop-q in record {
+      ys_len = tail-length row (le_refl _) (le_of_lt c.loop-q-test.true)
+          ∙ sym (part_length loop.acc loop.q (c.args.c + 1 - loop.q) (omega (arith, loop.invariant.1)));
+      headroom = part-each (λ (x : ℕ). x + 65025 < 4294967296) loop.acc loop.q (c.args.c + 1 - loop.q) (omega arith)
+          (subtracted-room c.requires.ready c.requires.line loop.invariant.0 65025 (omega arith) loop.acc loop.invariant.1 (λ j k. le_refl (at loop.acc j)));
     }
 
 pub overflow_sub-begin : goal.overflow_sub-begin
@@ -107,10 +104,9 @@ loop-q-smaller c = omega arith
 
 pub loop-q-preserved : goal.loop-q-preserved
 loop-q-preserved c =
-    let turn = c in
     let pre = c.requires in
-    let w = turn.loop-q.invariant in
-    let l = turn.loop-q-test.true in
+    let w = c.loop-q.invariant in
+    let l = c.loop-q-test.true in
     let factor = c.factor-g.ensures in
     let sum = c.accumulate-in-loop-q.ensures in (
       subtracted-next pre.ready pre.line w.0 l _ (added pre.ready pre.line w.0 l _ factor _ _ w.1 sum),

@@ -26,11 +26,10 @@ pub fill_row-requires : goal.fill_row-requires
 fill_row-requires c =
     let count : length c.args.e.now ≡ c.columns-c.result + 1 =
     (c.requires.e_len ∙ ap (λ (n : ℕ). n + 1) (sym c.columns-c.ensures)) in
-    let r = c in
     let pre = c.requires in record {
       within = pre.within;
       lent = pre.lent;
-      row_len = length-take-le r.columns-c.result _ (omega (arith, count)) ∙ r.columns-c.ensures;
+      row_len = length-take-le c.columns-c.result _ (omega (arith, count)) ∙ c.columns-c.ensures;
     }
 
 pub bounds-e-c : goal.bounds-e-c
@@ -41,7 +40,6 @@ bounds-e-c c =
     (c.fill_row.new.row) in
     let filled : length row-filled ≡ c.columns-c.result =
     (ap length c.fill_row.ensures ∙ row-length _ _ ∙ sym c.columns-c.ensures) in
-    let r = c in
     simp (length-append, length-drop) (omega (arith, filled, count))
 
 pub returns : goal.returns
@@ -52,7 +50,6 @@ returns c =
     (c.fill_row.new.row) in
     let filled : length row-filled ≡ c.columns-c.result =
     (ap length c.fill_row.ensures ∙ row-length _ _ ∙ sym c.columns-c.ensures) in
-    let r = c in
     let args = c.args in
     front-written row-filled args.e.now _ args.value filled count
-    ∙ ap (λ (xs : List ℕ). xs ++ (args.value ∷ [])) r.fill_row.ensures
+    ∙ ap (λ (xs : List ℕ). xs ++ (args.value ∷ [])) c.fill_row.ensures

@@ -28,26 +28,21 @@ pub slice_bounds-e-end-2 : goal.slice_bounds-e-end-2
 slice_bounds-e-end-2 c =
     let lent : Given =
     (lend c.args.plan c.args.radices.now c.args.weights.now c.args.tables.now c.args.d.now) in
-    let r = c in
-    let s = c in
-    held-room lent s.args.entry s.args.value s.requires.within s.requires.lent s.requires.value_lt_p r.columns-c.ensures r.entry_equation.ensures _
+    held-room lent c.args.entry c.args.value c.requires.within c.requires.lent c.requires.value_lt_p c.columns-c.ensures c.entry_equation.ensures _
 
 pub slice_bounds-file_equation-end : goal.slice_bounds-file_equation-end
 slice_bounds-file_equation-end c =
     let lent : Given =
     (lend c.args.plan c.args.radices.now c.args.weights.now c.args.tables.now c.args.d.now) in
-    let r = c in
-    let s = c in
-    sym (held-length lent s.args.entry s.args.value s.requires.within s.requires.lent s.requires.value_lt_p r.columns-c.ensures r.entry_equation.ensures _)
+    sym (held-length lent c.args.entry c.args.value c.requires.within c.requires.lent c.requires.value_lt_p c.columns-c.ensures c.entry_equation.ensures _)
 
 pub file_equation-requires : goal.file_equation-requires
 file_equation-requires c =
     let lent : Given =
     (lend c.args.plan c.args.radices.now c.args.weights.now c.args.tables.now c.args.d.now) in
-    let r = c in
-    let s = c in record {
-      ready = subst⁻¹ (λ (n : ℕ). Ready s.args.plan.p n s.args.store.now) r.columns-c.ensures s.requires.ready;
-      line = held-line lent s.args.entry s.args.value s.requires.within s.requires.lent s.requires.value_lt_p r.columns-c.ensures r.entry_equation.ensures _;
+    record {
+      ready = subst⁻¹ (λ (n : ℕ). Ready c.args.plan.p n c.args.store.now) c.columns-c.ensures c.requires.ready;
+      line = held-line lent c.args.entry c.args.value c.requires.within c.requires.lent c.requires.value_lt_p c.columns-c.ensures c.entry_equation.ensures _;
     }
 
 pub returns : goal.returns
@@ -55,12 +50,10 @@ unfolding filed
 returns c =
     let lent : Given =
     (lend c.args.plan c.args.radices.now c.args.weights.now c.args.tables.now c.args.d.now) in
-    let r = c in
-    let s = c in
-    let p = s.args.plan.p in
-    let store = s.args.store.now in
-    let same = r.columns-c.ensures in
-    let list = held-list lent s.args.entry s.args.value s.requires.within s.requires.lent s.requires.value_lt_p r.columns-c.ensures r.entry_equation.ensures _ in record {
+    let p = c.args.plan.p in
+    let store = c.args.store.now in
+    let same = c.columns-c.ensures in
+    let list = held-list lent c.args.entry c.args.value c.requires.within c.requires.lent c.requires.value_lt_p c.columns-c.ensures c.entry_equation.ensures _ in record {
       result_value = c.file_equation.ensures.result_value ∙ ap₂ (λ (n : ℕ) (xs : List ℕ). answered (outcome p n (cells n store) (at xs))) same list;
       store_after = c.file_equation.ensures.store_after ∙ ap₂ (λ (n : ℕ) (xs : List ℕ). flat n (after p n (cells n store) (at xs))) same list;
     }

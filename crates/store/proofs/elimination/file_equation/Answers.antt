@@ -16,10 +16,10 @@ slice_bounds-residual-end c =
 
 pub residual-requires : goal.residual-requires
 residual-requires c =
-    let s = c in record {
-      ready = s.requires.ready;
-      line = s.requires.line;
-      out_len = length-take-le (s.args.c + 1) _ (omega arith);
+    record {
+      ready = c.requires.ready;
+      line = c.requires.line;
+      out_len = length-take-le (c.args.c + 1) _ (omega arith);
     }
 
 pub slice_bounds-res-end-2 : goal.slice_bounds-res-end-2
@@ -41,16 +41,14 @@ slice_bounds-res-end-then-k-c c =
     let left : let args = c.args in
     Left args.p args.c args.store.now (at args.e.now) c.residual.new.out =
     (record { list = c.residual.ensures }) in
-    let r = c in
-    front-room _ r.residual.new.out _ (left-length left)
+    front-room _ c.residual.new.out _ (left-length left)
 
 pub slice_bounds-insert_row-end : goal.slice_bounds-insert_row-end
 slice_bounds-insert_row-end c =
     let left : let args = c.args in
     Left args.p args.c args.store.now (at args.e.now) c.residual.new.out =
     (record { list = c.residual.ensures }) in
-    let r = c in
-    sym (front_length _ r.residual.new.out _ (left-length left))
+    sym (front_length _ c.residual.new.out _ (left-length left))
 
 pub insert_row-requires : goal.insert_row-requires
 insert_row-requires c =
@@ -63,10 +61,9 @@ insert_row-requires c =
     let column : c.lead-k.result < c.args.c = c.if-k-c.true in
     let new = c in
     let r = new in
-    let s = c in
-    let pos : 0 < s.args.p = omega (arith, s.requires.ready.modulus.0) in
+    let pos : 0 < c.args.p = omega (arith, c.requires.ready.modulus.0) in
     let k = found in record {
-      ready = s.requires.ready;
+      ready = c.requires.ready;
       line = left-line left _ pos;
       k_lt_c = column;
       by_index = λ j l. left_at left _ j (omega (arith, column)) ∙ lead-left k j l;
@@ -96,7 +93,6 @@ returns-then-res-c-ne0 c =
     let found : let args = c.args in
     LeadAt args.p args.c args.store.now (at args.e.now) c.lead-k.result =
     (lead-of left _ _ c.lead-k.ensures) in
-    let r = c in
     let k = found in
     let none = c.if-k-c.false in record {
       result_value = conflict-answer k none (λ z. c.if-res-c-ne0.true (last-at left _ ∙ z));
@@ -111,7 +107,6 @@ returns c =
     let found : let args = c.args in
     LeadAt args.p args.c args.store.now (at args.e.now) c.lead-k.result =
     (lead-of left _ _ c.lead-k.ensures) in
-    let r = c in
     let k = found in
     let none = c.if-k-c.false in record {
       result_value = implied-answer k none (sym (last-at left _) ∙ c.if-res-c-ne0.false);

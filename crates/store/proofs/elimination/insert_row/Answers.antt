@@ -20,9 +20,9 @@ use Rattle.store.proofs.elimination.insert_row.Goals as goal
 
 pub inverse-g-requires : goal.inverse-g-requires
 inverse-g-requires c =
-    let s = c in record {
-      modulus = s.requires.ready.modulus;
-      a_lt_p = s.requires.line.residues s.args.k;
+    record {
+      modulus = c.requires.ready.modulus;
+      a_lt_p = c.requires.line.residues c.args.k;
     }
 
 pub slice_bounds-set_multiple-end : goal.slice_bounds-set_multiple-end
@@ -37,10 +37,9 @@ set_multiple-requires c =
     (omega (arith, c.requires.ready.modulus.0)) in
     let factor : c.inverse-g.result ≤ c.args.p =
     (rw c.inverse-g.ensures (le_of_lt (mod-lt _ positive))) in
-    let s = c in
-    let line = s.requires.line in record {
-      modulus = s.requires.ready.modulus;
-      ys_len = line.places ∙ sym (length-take-le (s.args.c + 1) _ (omega arith));
+    let line = c.requires.line in record {
+      modulus = c.requires.ready.modulus;
+      ys_len = line.places ∙ sym (length-take-le (c.args.c + 1) _ (omega arith));
       residues = line.residues;
       g_le_p = factor;
     }
@@ -51,8 +50,7 @@ slice_bounds-pivot-end-2 c =
     (omega (arith, c.requires.ready.modulus.0)) in
     let line : Line c.args.p c.args.c c.set_multiple.new.out =
     (pivot-line _ c.requires.line positive c.set_multiple.ensures) in
-    let r = c in
-    front-room _ r.set_multiple.new.out _ line.places
+    front-room _ c.set_multiple.new.out _ line.places
 
 pub slice_bounds-clear_above-end : goal.slice_bounds-clear_above-end
 slice_bounds-clear_above-end c =
@@ -60,8 +58,7 @@ slice_bounds-clear_above-end c =
     (omega (arith, c.requires.ready.modulus.0)) in
     let line : Line c.args.p c.args.c c.set_multiple.new.out =
     (pivot-line _ c.requires.line positive c.set_multiple.ensures) in
-    let r = c in
-    sym (front_length _ r.set_multiple.new.out _ line.places)
+    sym (front_length _ c.set_multiple.new.out _ line.places)
 
 pub clear_above-begin-requires : goal.clear_above-begin-requires
 clear_above-begin-requires c =
@@ -69,13 +66,11 @@ clear_above-begin-requires c =
     (omega (arith, c.requires.ready.modulus.0)) in
     let line : Line c.args.p c.args.c c.set_multiple.new.out =
     (pivot-line _ c.requires.line positive c.set_multiple.ensures) in
-    let r = c in
-    let s = c in
-    let column = s.requires.k_lt_c in
-    let e = front-list _ r.set_multiple.new.out _ line.places in
-    let before = pivot-before _ s.requires.line positive r.set_multiple.ensures _ (le_of_lt column) s.requires.by_index in record {
-      ready = s.requires.ready;
-      line = subst⁻¹ (Line s.args.p s.args.c) e line;
+    let column = c.requires.k_lt_c in
+    let e = front-list _ c.set_multiple.new.out _ line.places in
+    let before = pivot-before _ c.requires.line positive c.set_multiple.ensures _ (le_of_lt column) c.requires.by_index in record {
+      ready = c.requires.ready;
+      line = subst⁻¹ (Line c.args.p c.args.c) e line;
       k_lt_c = column;
       by_index = λ j l. ap (λ (xs : List ℕ). at xs j) e ∙ before j l;
     }
@@ -84,24 +79,21 @@ pub overflow_add-a : goal.overflow_add-a
 overflow_add-a c =
     let row : let args = c.args in
     RowAt args.c c.clear_above-begin.new.store args.k c.clear_above-begin.result =
-    (let s = c in
-    record { size = ap length c.clear_above-begin.ensures.store_after ∙ flat-length _ _; inside = s.requires.k_lt_c; begins = c.clear_above-begin.ensures.value }) in
+    (record { size = ap length c.clear_above-begin.ensures.store_after ∙ flat-length _ _; inside = c.requires.k_lt_c; begins = c.clear_above-begin.ensures.value }) in
     omega (arith, row_fits row)
 
 pub overflow_add-end : goal.overflow_add-end
 overflow_add-end c =
     let row : let args = c.args in
     RowAt args.c c.clear_above-begin.new.store args.k c.clear_above-begin.result =
-    (let s = c in
-    record { size = ap length c.clear_above-begin.ensures.store_after ∙ flat-length _ _; inside = s.requires.k_lt_c; begins = c.clear_above-begin.ensures.value }) in
+    (record { size = ap length c.clear_above-begin.ensures.store_after ∙ flat-length _ _; inside = c.requires.k_lt_c; begins = c.clear_above-begin.ensures.value }) in
     omega (arith, row_fits row)
 
 pub slice_bounds-set_multiple-end-2 : goal.slice_bounds-set_multiple-end-2
 slice_bounds-set_multiple-end-2 c =
     let row : let args = c.args in
     RowAt args.c c.clear_above-begin.new.store args.k c.clear_above-begin.result =
-    (let s = c in
-    record { size = ap length c.clear_above-begin.ensures.store_after ∙ flat-length _ _; inside = s.requires.k_lt_c; begins = c.clear_above-begin.ensures.value }) in
+    (record { size = ap length c.clear_above-begin.ensures.store_after ∙ flat-length _ _; inside = c.requires.k_lt_c; begins = c.clear_above-begin.ensures.value }) in
     row_fits row
 
 pub slice_bounds-set_multiple-end-3 : goal.slice_bounds-set_multiple-end-3
@@ -110,8 +102,7 @@ slice_bounds-set_multiple-end-3 c =
     (omega (arith, c.requires.ready.modulus.0)) in
     let line : Line c.args.p c.args.c c.set_multiple.new.out =
     (pivot-line _ c.requires.line positive c.set_multiple.ensures) in
-    let r = c in
-    front-room _ r.set_multiple.new.out _ line.places
+    front-room _ c.set_multiple.new.out _ line.places
 
 pub set_multiple-requires-2 : goal.set_multiple-requires-2
 set_multiple-requires-2 c =
@@ -141,11 +132,10 @@ returns c =
     (pivot-line _ c.requires.line positive c.set_multiple.ensures) in
     let cleared = c in
     let r = cleared in
-    let s = c in
-    let k = s.args.k in
-    let normal-places = pivot-at _ s.requires.line positive r.set_multiple.ensures k r.inverse-g.ensures in
-    row-inserted _ _ _ (normal s.args.p (at s.args.res.now) k) k s.requires.ready.reduced s.requires.k_lt_c
-    (λ j. normal-small s.args.p (at s.args.res.now) k j positive)
+    let k = c.args.k in
+    let normal-places = pivot-at _ c.requires.line positive r.set_multiple.ensures k r.inverse-g.ensures in
+    row-inserted _ _ _ (normal c.args.p (at c.args.res.now) k) k c.requires.ready.reduced c.requires.k_lt_c
+    (λ j. normal-small c.args.p (at c.args.res.now) k j positive)
     _ _ _ _ cleared.clear_above-begin.ensures.value (front-room _ r.set_multiple.new.out _ line.places)
     (λ j b. ap (λ (xs : List ℕ). at xs j) (front-list _ r.set_multiple.new.out _ line.places) ∙ normal-places j b)
     cleared.clear_above-begin.ensures.store_after c.set_multiple-2.ensures

@@ -18,10 +18,10 @@ slice_bounds-defer-end c =
 
 pub defer-requires : goal.defer-requires
 defer-requires c =
-    let s = c in record {
-      ready = s.requires.ready;
-      line = s.requires.line;
-      acc_value = zeros-front 1025 (s.args.c + 1) (omega arith);
+    record {
+      ready = c.requires.ready;
+      line = c.requires.line;
+      acc_value = zeros-front 1025 (c.args.c + 1) (omega arith);
     }
 
 pub slice_bounds-acc-end-2 : goal.slice_bounds-acc-end-2
@@ -34,21 +34,19 @@ pub slice_bounds-reduce-end : goal.slice_bounds-reduce-end
 slice_bounds-reduce-end c =
     let count : length c.defer.new.acc ≡ c.args.c + 1 =
     (ap length c.defer.ensures ∙ tab-length _ _) in
-    let r = c in
-    sym (front_length _ r.defer.new.acc _ count)
+    sym (front_length _ c.defer.new.acc _ count)
 
 pub reduce-requires : goal.reduce-requires
 reduce-requires c =
     let count : length c.defer.new.acc ≡ c.args.c + 1 =
     (ap length c.defer.ensures ∙ tab-length _ _) in
-    let r = c in record {
+    record {
       modulus = c.requires.ready.modulus;
-      acc_len = front_length _ r.defer.new.acc _ count ∙ sym c.requires.out_len;
+      acc_len = front_length _ c.defer.new.acc _ count ∙ sym c.requires.out_len;
     }
 
 pub returns : goal.returns
 returns c =
     let count : length c.defer.new.acc ≡ c.args.c + 1 =
     (ap length c.defer.ensures ∙ tab-length _ _) in
-    let r = c in
-    c.reduce.ensures ∙ reduced-sums _ _ _ _ _ (front-list _ r.defer.new.acc _ count ∙ r.defer.ensures)
+    c.reduce.ensures ∙ reduced-sums _ _ _ _ _ (front-list _ c.defer.new.acc _ count ∙ c.defer.ensures)

@@ -11,5 +11,4 @@ passes-requires c = record {
 
 pub returns : goal.returns
 returns c =
-    let start = c.before.before in
-    c.passes.ensures ∙ half-tested start.args.p start.args.c start.args.store.now start.requires.modulus.0 start.requires.store_len
+    c.passes.ensures ∙ half-tested c.args.p c.args.c c.args.store.now c.requires.modulus.0 c.requires.store_len

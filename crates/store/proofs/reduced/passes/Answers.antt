@@ -13,12 +13,11 @@ use Rattle.store.proofs.reduced.passes.Goals as goal
 
 pub take_rows-requires : goal.take_rows-requires
 take_rows-requires c =
-    let start = c.before.before in
-    let C = start.args.c in
+    let C = c.args.c in
     let begin : ℕ = 15 - C % 16 in
     let width : begin + C + 1 - begin ≡ C + 1 = omega arith in record {
-      c_bound = start.requires.c_bound;
-      store_len = start.requires.store_len;
+      c_bound = c.requires.c_bound;
+      store_len = c.requires.store_len;
       tops_value = ap (λ (n : ℕ). take n (drop begin (replicate 1040 0))) width ∙ zeros-part 1040 begin (C + 1) (omega arith);
     }
 

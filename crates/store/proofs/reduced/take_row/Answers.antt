@@ -15,39 +15,33 @@ clauses all = record { tops_after = all.0; tops_after_2 = all.1 }
 
 pub returns-then-not-all_zero : goal.returns-then-not-all_zero
 returns-then-not-all_zero c =
-    let start = c.before.before.before.before.before.before.before in
     let test = c.all_zero in
-    let some : all_below 1 start.args.row.now ≡ false = sym test.ensures ∙ not-true test.result (ap not c.if-not-all_zero.true) in
+    let some : all_below 1 c.args.row.now ≡ false = sym test.ensures ∙ not-true test.result (ap not c.if-not-all_zero.true) in
     clauses (took-none _ _ _ _ _ _ c.if-first-eq0.true refl (rw some))
 
 pub returns-then-above-p : goal.returns-then-above-p
 returns-then-above-p c =
-    let start = c.before.before.before.before.before.before.before.before in
     let test = c.all_zero in
-    let zero : all_below 1 start.args.row.now ≡ true = sym test.ensures ∙ not-false test.result (ap not c.if-not-all_zero.false) in
-    clauses (took-none _ _ _ _ _ _ c.if-first-eq0.true refl (rw (zero, lt-ltb (at start.args.tops.now 0) start.args.p c.if-above-p.true)))
+    let zero : all_below 1 c.args.row.now ≡ true = sym test.ensures ∙ not-false test.result (ap not c.if-not-all_zero.false) in
+    clauses (took-none _ _ _ _ _ _ c.if-first-eq0.true refl (rw (zero, lt-ltb (at c.args.tops.now 0) c.args.p c.if-above-p.true)))
 
 pub returns-then-first-eq0 : goal.returns-then-first-eq0
 returns-then-first-eq0 c =
-    let start = c.before.before.before.before.before.before.before.before in
     let test = c.all_zero in
-    let zero : all_below 1 start.args.row.now ≡ true = sym test.ensures ∙ not-false test.result (ap not c.if-not-all_zero.false) in
-    clauses (took-none _ _ _ _ _ _ c.if-first-eq0.true refl (rw (zero, le-ltb (at start.args.tops.now 0) start.args.p c.if-above-p.false)))
+    let zero : all_below 1 c.args.row.now ≡ true = sym test.ensures ∙ not-false test.result (ap not c.if-not-all_zero.false) in
+    clauses (took-none _ _ _ _ _ _ c.if-first-eq0.true refl (rw (zero, le-ltb (at c.args.tops.now 0) c.args.p c.if-above-p.false)))
 
 pub returns-then-above-ne0 : goal.returns-then-above-ne0
 returns-then-above-ne0 c =
-    let start = c.before.before.before.before.before.before.before.before.before.before in
-    clauses (took-pivot _ _ _ _ _ _ start.requires.row_nonzero c.if-first-eq0.false c.raise_row.ensures
-    (rw (ne_eqb (at start.args.tops.now 0) 0 c.if-above-ne0.true)))
+    clauses (took-pivot _ _ _ _ _ _ c.requires.row_nonzero c.if-first-eq0.false c.raise_row.ensures
+    (rw (ne_eqb (at c.args.tops.now 0) 0 c.if-above-ne0.true)))
 
 pub returns-then-first-ne1 : goal.returns-then-first-ne1
 returns-then-first-ne1 c =
-    let start = c.before.before.before.before.before.before.before.before.before.before.before in
-    clauses (took-pivot _ _ _ _ _ _ start.requires.row_nonzero c.if-first-eq0.false c.raise_row.ensures
-    (rw (eq-eqb (at start.args.tops.now 0) 0 c.if-above-ne0.false, ne_eqb (at start.args.row.now 0) 1 c.if-first-ne1.true)))
+    clauses (took-pivot _ _ _ _ _ _ c.requires.row_nonzero c.if-first-eq0.false c.raise_row.ensures
+    (rw (eq-eqb (at c.args.tops.now 0) 0 c.if-above-ne0.false, ne_eqb (at c.args.row.now 0) 1 c.if-first-ne1.true)))
 
 pub returns : goal.returns
 returns c =
-    let start = c.before.before.before.before.before.before.before.before.before.before.before in
-    clauses (took-pivot _ _ _ _ _ _ start.requires.row_nonzero c.if-first-eq0.false c.raise_row.ensures
-    (rw (eq-eqb (at start.args.tops.now 0) 0 c.if-above-ne0.false, eq-eqb (at start.args.row.now 0) 1 c.if-first-ne1.false)))
+    clauses (took-pivot _ _ _ _ _ _ c.requires.row_nonzero c.if-first-eq0.false c.raise_row.ensures
+    (rw (eq-eqb (at c.args.tops.now 0) 0 c.if-above-ne0.false, eq-eqb (at c.args.row.now 0) 1 c.if-first-ne1.false)))

@@ -17,8 +17,7 @@ overflow_add-width c = omega arith
 pub loop-q-init : goal.loop-q-init
 unfolding state_after
 loop-q-init c =
-    let start = c in
-    (taken_none refl start.requires.tops_value, omega (arith, start-zero start.args.c))
+    (taken_none refl c.requires.tops_value, omega (arith, start-zero c.args.c))
 
 pub overflow_sub-end : goal.overflow_sub-end
 overflow_sub-end c = omega arith
@@ -60,9 +59,8 @@ take_row-sound-requires c =
     c.loop-q.begin + (start.args.c + 1 - c.loop-q.q) ≤ length start.args.store.now =
     (let start = c in
     row_room start.args.c start.args.store.now c.loop-q.q c.loop-q.begin c.loop-q.invariant.1 start.requires.store_len c.loop-q-test.true) in
-    let turn = c in
-    let count = cut-length turn.args.store.now turn.loop-q.begin (turn.args.c + 1 - turn.loop-q.q) ends in record {
-      row_len = count ∙ sym (columns-lent turn.loop-q.invariant.0);
+    let count = cut-length c.args.store.now c.loop-q.begin (c.args.c + 1 - c.loop-q.q) ends in record {
+      row_len = count ∙ sym (columns-lent c.loop-q.invariant.0);
       row_nonzero = omega (arith, count);
     }
 

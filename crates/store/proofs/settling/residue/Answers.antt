@@ -22,13 +22,11 @@ pub bounds-e-i : goal.bounds-e-i
 bounds-e-i c =
     let inside : c.loop-i.i < c.args.c =
     (omega (arith, c.requires.q_le_c)) in
-    let turn = c in
     omega (arith, inside, c.requires.line.places)
 
 pub overflow_sub-f : goal.overflow_sub-f
 overflow_sub-f c =
-    let turn = c in
-    omega (arith, c.requires.line.residues turn.loop-i.i)
+    omega (arith, c.requires.line.residues c.loop-i.i)
 
 pub overflow_cast-f : goal.overflow_cast-f
 overflow_cast-f c = omega (arith, c.requires.ready.modulus.1)
@@ -39,7 +37,6 @@ bounds-store-a c =
     (omega (arith, c.requires.q_le_c)) in
     let ends : let args = c.args in row_start args.c c.loop-i.i + (args.c + 1) ≤ length args.store.now =
     (omega (arith, row-end c.args.c c.loop-i.i inside, c.requires.ready.places)) in
-    let turn = c in
     omega (arith, ends, c.requires.q_le_c)
 
 pub overflow_mul-sum : goal.overflow_mul-sum
@@ -54,10 +51,9 @@ overflow_mul-sum c =
     let room : let args = c.args in
     let i = c.loop-i.i in
     c.loop-i.sum + (args.p - at args.e.now i) * at args.store.now c.loop-i.a < 4294967296 =
-    (let s = c in
-    let i = c.loop-i.i in
-    let term = ap (λ (x : ℕ). (s.args.p - at s.args.e.now i) * x) place in
-    omega (arith, term, c.loop-i.invariant.2, sum_room s.requires.ready s.requires.line s.args.q i s.requires.q_le_c inside)) in
+    (let i = c.loop-i.i in
+    let term = ap (λ (x : ℕ). (c.args.p - at c.args.e.now i) * x) place in
+    omega (arith, term, c.loop-i.invariant.2, sum_room c.requires.ready c.requires.line c.args.q i c.requires.q_le_c inside)) in
     omega (arith, room)
 
 pub overflow_add-sum : goal.overflow_add-sum
@@ -72,10 +68,9 @@ overflow_add-sum c =
     let room : let args = c.args in
     let i = c.loop-i.i in
     c.loop-i.sum + (args.p - at args.e.now i) * at args.store.now c.loop-i.a < 4294967296 =
-    (let s = c in
-    let i = c.loop-i.i in
-    let term = ap (λ (x : ℕ). (s.args.p - at s.args.e.now i) * x) place in
-    omega (arith, term, c.loop-i.invariant.2, sum_room s.requires.ready s.requires.line s.args.q i s.requires.q_le_c inside)) in
+    (let i = c.loop-i.i in
+    let term = ap (λ (x : ℕ). (c.args.p - at c.args.e.now i) * x) place in
+    omega (arith, term, c.loop-i.invariant.2, sum_room c.requires.ready c.requires.line c.args.q i c.requires.q_le_c inside)) in
     omega (arith, room)
 
 pub overflow_sub-a : goal.overflow_sub-a
@@ -90,7 +85,6 @@ overflow_add-a c =
     (omega (arith, c.requires.q_le_c)) in
     let ends : let args = c.args in row_start args.c c.loop-i.i + (args.c + 1) ≤ length args.store.now =
     (omega (arith, row-end c.args.c c.loop-i.i inside, c.requires.ready.places)) in
-    let turn = c in
     omega (arith, ends, c.requires.q_le_c)
 
 pub overflow_add-i : goal.overflow_add-i
@@ -106,8 +100,7 @@ loop-i-preserved c =
     (let args = c.args in
     let loop = c.loop-i in
     ap (at args.store.now) loop.invariant.1 ∙ sym (cells_right args.c args.store.now loop.i args.q loop.invariant.0)) in
-    let turn = c in
-    let loop = turn.loop-i in
+    let loop = c.loop-i in
     let args = c.args in (
       omega arith,
       omega (arith, start-next args.c loop.i),
@@ -120,14 +113,12 @@ nonzero_rem-result c = omega (arith, c.requires.ready.modulus.0)
 
 pub overflow_cast-result-2 : goal.overflow_cast-result-2
 overflow_cast-result-2 c =
-    let s = c in
-    let pos : 0 < s.args.p = omega (arith, s.requires.ready.modulus.0) in
-    omega (arith, mod-lt c.loop-i.sum pos, s.requires.ready.modulus.1)
+    let pos : 0 < c.args.p = omega (arith, c.requires.ready.modulus.0) in
+    omega (arith, mod-lt c.loop-i.sum pos, c.requires.ready.modulus.1)
 
 pub returns : goal.returns
 returns c =
-    let s = c in
     let loop = c.loop-i in
     let all = le_antisymm loop.invariant.0 c.loop-i-test.false in
-    ap (λ (x : ℕ). x % s.args.p) (loop.invariant.2 ∙ ap (column-sum s.args.p (cells s.args.c s.args.store.now) (at s.args.e.now) s.args.q) all)
-    ∙ column-residual s.args.p s.args.c (cells s.args.c s.args.store.now) (at s.args.e.now) s.requires.ready.reduced s.args.q s.requires.q_le_c s.requires.q_value
+    ap (λ (x : ℕ). x % c.args.p) (loop.invariant.2 ∙ ap (column-sum c.args.p (cells c.args.c c.args.store.now) (at c.args.e.now) c.args.q) all)
+    ∙ column-residual c.args.p c.args.c (cells c.args.c c.args.store.now) (at c.args.e.now) c.requires.ready.reduced c.args.q c.requires.q_le_c c.requires.q_value

@@ -31,18 +31,16 @@ returns-then-places-q c h = absurd (omega arith)
 
 pub residue-requires : goal.residue-requires
 residue-requires c =
-    let turn = c in
     let pre = c.requires in record {
       ready = pre.ready;
       line = pre.line;
-      q_le_c = le_of_lt turn.loop-q-test.true;
-      q_value = turn.loop-q.invariant.1;
+      q_le_c = le_of_lt c.loop-q-test.true;
+      q_value = c.loop-q.invariant.1;
     }
 
 pub returns-then-residue-ne0 : goal.returns-then-residue-ne0
 returns-then-residue-ne0 c h =
-    let turn = c.before.before.before in
-    let loop = turn.loop-q in
+    let loop = c.loop-q in
     sym (lead_is _ _ _ loop.invariant.0 loop.invariant.2 (λ l z. c.if-residue-ne0.true (c.residue.ensures ∙ z)))
 
 pub overflow_add-q : goal.overflow_add-q
@@ -50,9 +48,8 @@ overflow_add-q c = omega arith
 
 pub next_free-q-requires-in-loop-q : goal.next_free-q-requires-in-loop-q
 next_free-q-requires-in-loop-q c =
-    let turn = c in
     let ready = c.requires.ready in record {
-      from_le_c = (omega (arith, turn.loop-q-test.true), ready.limit);
+      from_le_c = (omega (arith, c.loop-q-test.true), ready.limit);
       store_len = ready.places;
     }
 
@@ -61,9 +58,8 @@ loop-q-smaller c = omega (arith, c.next_free-q-in-loop-q.ensures.low, c.next_fre
 
 pub loop-q-preserved : goal.loop-q-preserved
 loop-q-preserved c =
-    let turn = c in
     let pre = c.requires in
-    let loop = turn.loop-q in
+    let loop = c.loop-q in
     let next = c.next_free-q-in-loop-q.ensures in
     let none : residual _ _ _ _ loop.q ≡ 0 = sym c.residue.ensures ∙ c.if-residue-ne0.false in (
       next.high,

@@ -32,9 +32,7 @@ slice_bounds-e-end-2 c =
     (lend c.args.plan c.args.radices.now c.args.weights.now c.args.tables.now c.args.d.now) in
     let positive : 0 < c.args.plan.p =
     (omega (arith, prime-low c.requires.within)) in
-    let r = c in
-    let s = c in
-    held-room lent s.args.entry 0 s.requires.within s.requires.lent positive r.columns-c.ensures r.entry_equation.ensures _
+    held-room lent c.args.entry 0 c.requires.within c.requires.lent positive c.columns-c.ensures c.entry_equation.ensures _
 
 pub slice_bounds-settle_equation-end : goal.slice_bounds-settle_equation-end
 slice_bounds-settle_equation-end c =
@@ -42,9 +40,7 @@ slice_bounds-settle_equation-end c =
     (lend c.args.plan c.args.radices.now c.args.weights.now c.args.tables.now c.args.d.now) in
     let positive : 0 < c.args.plan.p =
     (omega (arith, prime-low c.requires.within)) in
-    let r = c in
-    let s = c in
-    sym (held-length lent s.args.entry 0 s.requires.within s.requires.lent positive r.columns-c.ensures r.entry_equation.ensures _)
+    sym (held-length lent c.args.entry 0 c.requires.within c.requires.lent positive c.columns-c.ensures c.entry_equation.ensures _)
 
 pub settle_equation-requires : goal.settle_equation-requires
 settle_equation-requires c =
@@ -52,10 +48,9 @@ settle_equation-requires c =
     (lend c.args.plan c.args.radices.now c.args.weights.now c.args.tables.now c.args.d.now) in
     let positive : 0 < c.args.plan.p =
     (omega (arith, prime-low c.requires.within)) in
-    let r = c in
-    let s = c in record {
-      ready = subst⁻¹ (λ (n : ℕ). Ready s.args.plan.p n s.args.store.now) r.columns-c.ensures s.requires.ready;
-      line = held-line lent s.args.entry 0 s.requires.within s.requires.lent positive r.columns-c.ensures r.entry_equation.ensures _;
+    record {
+      ready = subst⁻¹ (λ (n : ℕ). Ready c.args.plan.p n c.args.store.now) c.columns-c.ensures c.requires.ready;
+      line = held-line lent c.args.entry 0 c.requires.within c.requires.lent positive c.columns-c.ensures c.entry_equation.ensures _;
     }
 
 pub returns : goal.returns
@@ -64,8 +59,6 @@ returns c =
     (lend c.args.plan c.args.radices.now c.args.weights.now c.args.tables.now c.args.d.now) in
     let positive : 0 < c.args.plan.p =
     (omega (arith, prime-low c.requires.within)) in
-    let r = c in
-    let s = c in
     c.settle_equation.ensures
-    ∙ ap₂ (λ (n : ℕ) (xs : List ℕ). gives (values_of (standing s.args.plan.p n (cells n s.args.store.now) (at xs)))) r.columns-c.ensures
-    (held-list lent s.args.entry 0 s.requires.within s.requires.lent positive r.columns-c.ensures r.entry_equation.ensures _)
+    ∙ ap₂ (λ (n : ℕ) (xs : List ℕ). gives (values_of (standing c.args.plan.p n (cells n c.args.store.now) (at xs)))) c.columns-c.ensures
+    (held-list lent c.args.entry 0 c.requires.within c.requires.lent positive c.columns-c.ensures c.entry_equation.ensures _)

@@ -14,20 +14,18 @@ returns-then-k-c c = free-answer _ _ _ _ _ (c.search-k.ensures c.if-c-k.false) c
 
 pub residue-requires : goal.residue-requires
 residue-requires c =
-    let s = c.before.before.before.before.before in record {
-      ready = s.requires.ready;
-      line = s.requires.line;
-      q_le_c = le_refl s.args.c;
+    record {
+      ready = c.requires.ready;
+      line = c.requires.line;
+      q_le_c = le_refl c.args.c;
       q_value = λ l. absurd (omega arith);
     }
 
 pub opposite-requires : goal.opposite-requires
 opposite-requires c =
-    let s = c.before.before.before.before.before.before in
-    let pos : 0 < s.args.p = omega (arith, s.requires.ready.modulus.0) in
-    rw c.residue.ensures (residual-small s.args.p s.args.c (cells s.args.c s.args.store.now) (at s.args.e.now) s.args.c pos)
+    let pos : 0 < c.args.p = omega (arith, c.requires.ready.modulus.0) in
+    rw c.residue.ensures (residual-small c.args.p c.args.c (cells c.args.c c.args.store.now) (at c.args.e.now) c.args.c pos)
 
 pub returns : goal.returns
 returns c =
-    let none = c.before.before in
-    forced-answer _ _ _ _ _ (none.search-k.ensures none.if-c-k.false) none.if-k-c.false _ _ c.residue.ensures c.opposite.ensures
+    forced-answer _ _ _ _ _ (c.search-k.ensures c.if-c-k.false) c.if-k-c.false _ _ c.residue.ensures c.opposite.ensures

@@ -18,10 +18,10 @@ slice_bounds-residual-end c =
 
 pub residual-requires : goal.residual-requires
 residual-requires c =
-    let s = c in record {
-      ready = s.requires.ready;
-      line = s.requires.line;
-      out_len = length-take-le (s.args.c + 1) _ (omega arith);
+    record {
+      ready = c.requires.ready;
+      line = c.requires.line;
+      out_len = length-take-le (c.args.c + 1) _ (omega arith);
     }
 
 pub slice_bounds-res-end-2 : goal.slice_bounds-res-end-2
@@ -53,7 +53,6 @@ opposite-requires c =
     let left : let args = c.args in
     Left args.p args.c args.store.now (at args.e.now) c.residual.new.out =
     (record { list = c.residual.ensures }) in
-    let r = c in
     let args = c.args in
     let pos : 0 < args.p = omega (arith, c.requires.ready.modulus.0) in
     rw (last-at left _) (residual-small args.p args.c (cells args.c args.store.now) (at args.e.now) args.c pos)
@@ -66,5 +65,4 @@ returns c =
     let found : let args = c.args in
     LeadAt args.p args.c args.store.now (at args.e.now) c.lead-k.result =
     (lead-of left _ _ c.lead-k.ensures) in
-    let none = c in
-    forced-answer _ _ _ _ _ found.lead_is none.if-k-c.false _ _ (last-at left _) c.opposite.ensures
+    forced-answer _ _ _ _ _ found.lead_is c.if-k-c.false _ _ (last-at left _) c.opposite.ensures

@@ -18,19 +18,16 @@ clauses all = record { out_after = all.0; value = all.1 }
 
 pub returns-in-Stopped : goal.returns-in-Stopped
 returns-in-Stopped c =
-    let told = c in
     let printed = c.print_refusal in
     let args = c.args in
-    clauses (prints _ _ _ _ _ (finish-stopped args.state args.line.now args.radices.now args.weights.now args.tables.now args.d.now args.store.now _ told.in-Stopped.is) printed.ensures.out_after printed.ensures.value)
+    clauses (prints _ _ _ _ _ (finish-stopped args.state args.line.now args.radices.now args.weights.now args.tables.now args.d.now args.store.now _ c.in-Stopped.is) printed.ensures.out_after printed.ensures.value)
 
 pub returns-then-state-ne0 : goal.returns-then-state-ne0
 returns-then-state-ne0 c =
-    let held = c in
     let printed = c.print_refusal-then-state-ne0 in
-    let s = c in
-    let args = s.args in
+    let args = c.args in
     clauses (prints _ _ _ _ _
-    (finish-broken args.state args.line.now args.radices.now args.weights.now args.tables.now args.d.now args.store.now held.in_default.not-Stopped held.if-state-ne0.true s.requires.held_bound.0 s.requires.held_bound.1)
+    (finish-broken args.state args.line.now args.radices.now args.weights.now args.tables.now args.d.now args.store.now c.in_default.not-Stopped c.if-state-ne0.true c.requires.held_bound.0 c.requires.held_bound.1)
     printed.ensures.out_after printed.ensures.value)
 
 pub columns-requires : goal.columns-requires
@@ -40,9 +37,8 @@ columns-requires c =
     let T : ℕ = c.in-Entries.field-2 in
     let d : ℕ = c.in-Entries.c in
     let inside : Planned the_plan × (w ≤ length c.args.weights.now) × (d ≤ length c.args.d.now) =
-    (let s = c in
-    let args = s.args in
-    entries-inside args.state args.line.now args.radices.now args.weights.now args.tables.now args.d.now args.store.now the_plan w T d c.in-Entries.is s.requires.fits s.requires.buffer_sizes) in
+    (let args = c.args in
+    entries-inside args.state args.line.now args.radices.now args.weights.now args.tables.now args.d.now args.store.now the_plan w T d c.in-Entries.is c.requires.fits c.requires.buffer_sizes) in
     inside.0.0
 
 pub store_size-size-requires : goal.store_size-size-requires
@@ -52,9 +48,8 @@ store_size-size-requires c =
     let T : ℕ = c.in-Entries.field-2 in
     let d : ℕ = c.in-Entries.c in
     let inside : Planned the_plan × (w ≤ length c.args.weights.now) × (d ≤ length c.args.d.now) =
-    (let s = c in
-    let args = s.args in
-    entries-inside args.state args.line.now args.radices.now args.weights.now args.tables.now args.d.now args.store.now the_plan w T d c.in-Entries.is s.requires.fits s.requires.buffer_sizes) in
+    (let args = c.args in
+    entries-inside args.state args.line.now args.radices.now args.weights.now args.tables.now args.d.now args.store.now the_plan w T d c.in-Entries.is c.requires.fits c.requires.buffer_sizes) in
     omega (arith, c.columns.ensures, inside.0.1)
 
 pub slice_bounds-print_filed-end : goal.slice_bounds-print_filed-end
@@ -64,9 +59,8 @@ slice_bounds-print_filed-end c =
     let T : ℕ = c.in-Entries.field-2 in
     let d : ℕ = c.in-Entries.c in
     let inside : Planned the_plan × (w ≤ length c.args.weights.now) × (d ≤ length c.args.d.now) =
-    (let s = c in
-    let args = s.args in
-    entries-inside args.state args.line.now args.radices.now args.weights.now args.tables.now args.d.now args.store.now the_plan w T d c.in-Entries.is s.requires.fits s.requires.buffer_sizes) in
+    (let args = c.args in
+    entries-inside args.state args.line.now args.radices.now args.weights.now args.tables.now args.d.now args.store.now the_plan w T d c.in-Entries.is c.requires.fits c.requires.buffer_sizes) in
     sym (length-take-le _ _ inside.1)
 
 pub slice_bounds-print_filed-end-in-Entries : goal.slice_bounds-print_filed-end-in-Entries
@@ -76,9 +70,8 @@ slice_bounds-print_filed-end-in-Entries c =
     let T : ℕ = c.in-Entries.field-2 in
     let d : ℕ = c.in-Entries.c in
     let inside : Planned the_plan × (w ≤ length c.args.weights.now) × (d ≤ length c.args.d.now) =
-    (let s = c in
-    let args = s.args in
-    entries-inside args.state args.line.now args.radices.now args.weights.now args.tables.now args.d.now args.store.now the_plan w T d c.in-Entries.is s.requires.fits s.requires.buffer_sizes) in
+    (let args = c.args in
+    entries-inside args.state args.line.now args.radices.now args.weights.now args.tables.now args.d.now args.store.now the_plan w T d c.in-Entries.is c.requires.fits c.requires.buffer_sizes) in
     sym (length-take-le _ _ inside.2)
 
 pub slice_bounds-print_filed-end-in-Entries-2 : goal.slice_bounds-print_filed-end-in-Entries-2
@@ -88,9 +81,8 @@ slice_bounds-print_filed-end-in-Entries-2 c =
     let T : ℕ = c.in-Entries.field-2 in
     let d : ℕ = c.in-Entries.c in
     let inside : Planned the_plan × (w ≤ length c.args.weights.now) × (d ≤ length c.args.d.now) =
-    (let s = c in
-    let args = s.args in
-    entries-inside args.state args.line.now args.radices.now args.weights.now args.tables.now args.d.now args.store.now the_plan w T d c.in-Entries.is s.requires.fits s.requires.buffer_sizes) in
+    (let args = c.args in
+    entries-inside args.state args.line.now args.radices.now args.weights.now args.tables.now args.d.now args.store.now the_plan w T d c.in-Entries.is c.requires.fits c.requires.buffer_sizes) in
     let sized : (c.store_size-size.result ≡ store_size (columns the_plan)) × (c.store_size-size.result ≤ 65340) =
     (store-small _ _ _ c.columns.ensures inside.0.1 c.store_size-size.ensures) in
     let stored : c.store_size-size.result ≤ length c.args.store.now =
@@ -109,11 +101,9 @@ print_filed-requires c =
     entries-inside args.state args.line.now args.radices.now args.weights.now args.tables.now args.d.now args.store.now the_plan w T d c.in-Entries.is s.requires.fits s.requires.buffer_sizes) in
     let sized : (c.store_size-size.result ≡ store_size (columns the_plan)) × (c.store_size-size.result ≤ 65340) =
     (store-small _ _ _ c.columns.ensures inside.0.1 c.store_size-size.ensures) in
-    let size = c in
-    let r = c in
     let s = c in
     let args = s.args in
-    let sound = filed-sound args.state args.line.now args.radices.now args.weights.now args.tables.now args.d.now args.store.now the_plan w T d _ r.in-Entries.is sized.0 s.requires.sound_state in record {
+    let sound = filed-sound args.state args.line.now args.radices.now args.weights.now args.tables.now args.d.now args.store.now the_plan w T d _ c.in-Entries.is sized.0 s.requires.sound_state in record {
       within = inside.0.0;
       weights_len = (sound.0.weights-length, sound.0.weights-residues);
       d_len = (sound.0.products-length, sound.0.products-residues);
@@ -128,17 +118,15 @@ returns-in-Entries c =
     let T : ℕ = c.in-Entries.field-2 in
     let d : ℕ = c.in-Entries.c in
     let inside : Planned the_plan × (w ≤ length c.args.weights.now) × (d ≤ length c.args.d.now) =
-    (let s = c in
-    let args = s.args in
-    entries-inside args.state args.line.now args.radices.now args.weights.now args.tables.now args.d.now args.store.now the_plan w T d c.in-Entries.is s.requires.fits s.requires.buffer_sizes) in
+    (let args = c.args in
+    entries-inside args.state args.line.now args.radices.now args.weights.now args.tables.now args.d.now args.store.now the_plan w T d c.in-Entries.is c.requires.fits c.requires.buffer_sizes) in
     let sized : (c.store_size-size.result ≡ store_size (columns the_plan)) × (c.store_size-size.result ≤ 65340) =
     (store-small _ _ _ c.columns.ensures inside.0.1 c.store_size-size.ensures) in
     let printed = c in
     let size = printed in
-    let r = c in
     let args = c.args in
     clauses (prints _ _ _ _ _
-    (finish-filed args.state args.line.now args.radices.now args.weights.now args.tables.now args.d.now args.store.now r.if-state-ne0.false the_plan w T d _ r.in-Entries.is sized.0)
+    (finish-filed args.state args.line.now args.radices.now args.weights.now args.tables.now args.d.now args.store.now c.if-state-ne0.false the_plan w T d _ c.in-Entries.is sized.0)
     printed.print_filed.ensures.out_after printed.print_filed.ensures.value)
 
 pub returns : goal.returns

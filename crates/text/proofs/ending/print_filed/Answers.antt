@@ -26,22 +26,18 @@ read_off-requires c =
 
 pub slice_bounds-beta-end-2 : goal.slice_bounds-beta-end-2
 slice_bounds-beta-end-2 c =
-    let columns = c in
     let args = c.args in
-    read-front args.plan args.store.now _ _ _ columns.columns-c.ensures c.read_off.ensures
+    read-front args.plan args.store.now _ _ _ c.columns-c.ensures c.read_off.ensures
 
 pub slice_bounds-print_program-end : goal.slice_bounds-print_program-end
 slice_bounds-print_program-end c =
-    let read = c in
     let args = c.args in
-    read-part args.plan args.store.now _ _ _ c.columns-c.ensures read.read_off.ensures
+    read-part args.plan args.store.now _ _ _ c.columns-c.ensures c.read_off.ensures
 
 pub print_program-requires : goal.print_program-requires
 print_program-requires c =
-    let read = c in
-    let s = c in
-    let pre = s.requires in
-    let β = read-residues s.args.plan s.args.store.now _ _ _ c.columns-c.ensures read.read_off.ensures pre.within pre.ready in record {
+    let pre = c.requires in
+    let β = read-residues c.args.plan c.args.store.now _ _ _ c.columns-c.ensures c.read_off.ensures pre.within pre.ready in record {
       within = pre.within;
       weights_len = pre.weights_len;
       d_len = pre.d_len;

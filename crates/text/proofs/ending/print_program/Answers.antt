@@ -52,7 +52,6 @@ slice_bounds-print_listing-end c =
     (program-fits _ _ c.requires.within c.step_count-end.ensures c.requires.in_bounds.0) in
     let filled : length program ≡ 4 * c.step_count-end.result =
     ((program-room _ _ c.requires.within c.step_count-end.ensures).1 _ _ _) in
-    let r = c in
     program-front _ _ program _ fits filled c.put_program.ensures
 
 pub slice_bounds-print_listing-end-2 : goal.slice_bounds-print_listing-end-2
@@ -63,7 +62,6 @@ slice_bounds-print_listing-end-2 c =
     (program-fits _ _ c.requires.within c.step_count-end.ensures c.requires.in_bounds.0) in
     let filled : length program ≡ 4 * c.step_count-end.result =
     ((program-room _ _ c.requires.within c.step_count-end.ensures).1 _ _ _) in
-    let r = c in
     let put-program = c.put_program in
     program-length _ _ program _ fits filled put-program.ensures
 
@@ -75,7 +73,6 @@ print_listing-requires c =
     (program-fits _ _ c.requires.within c.step_count-end.ensures c.requires.in_bounds.0) in
     let filled : length program ≡ 4 * c.step_count-end.result =
     ((program-room _ _ c.requires.within c.step_count-end.ensures).1 _ _ _) in
-    let r = c in
     let pre = c.requires in
     let put-program = c.put_program in record {
       within = pre.within;

@@ -10,21 +10,19 @@ clauses all = record { out_after = all.0; value = all.1 }
 
 pub feed-last-requires : goal.feed-last-requires
 feed-last-requires c =
-    let b = c in
-    let s = c in record {
-      fits = b.start-first.ensures.fits.0;
-      held_bound = (omega (arith, b.start-first.ensures.fits.1), s.requires.in_bounds, omega (arith, b.start-first.ensures.fits.2, s.well_formed));
-      buffer_sizes = s.requires.buffer_sizes;
+    record {
+      fits = c.start-first.ensures.fits.0;
+      held_bound = (omega (arith, c.start-first.ensures.fits.1), c.requires.in_bounds, omega (arith, c.start-first.ensures.fits.2, c.well_formed));
+      buffer_sizes = c.requires.buffer_sizes;
     }
 
 pub finish-requires : goal.finish-requires
 finish-requires c =
     let feed = c.feed-last in
-    let b = c in
     let pre = c.requires in
     let args = c.args in
-    let sound = sound-state b.start-first.result feed.result args.text.now args.line.now args.radices.now args.weights.now args.tables.now args.d.now args.store.now
-    feed.new.line feed.new.radices feed.new.weights feed.new.tables feed.new.d feed.new.store (b.start-first.ensures.d_value _ _ _ _ _ _) feed.ensures.store_after in record {
+    let sound = sound-state c.start-first.result feed.result args.text.now args.line.now args.radices.now args.weights.now args.tables.now args.d.now args.store.now
+    feed.new.line feed.new.radices feed.new.weights feed.new.tables feed.new.d feed.new.store (c.start-first.ensures.d_value _ _ _ _ _ _) feed.ensures.store_after in record {
       fits = feed.ensures.fits_2.0;
       held_bound = (feed.ensures.fits_2.1, omega (arith, pre.in_bounds, feed.auto.line));
       buffer_sizes = sizes-kept pre.buffer_sizes (feed.auto.radices, (feed.auto.weights, (feed.auto.tables, (feed.auto.d, (feed.auto.store, tt)))));
@@ -34,11 +32,8 @@ finish-requires c =
 
 pub returns : goal.returns
 returns c =
-    let finish = c in
-    let f = c in
-    let feed = f.feed-last in
-    let b = c in
+    let feed = c.feed-last in
     let args = c.args in
-    let means = prints-meaning b.start-first.result feed.result args.text.now args.line.now args.radices.now args.weights.now args.tables.now args.d.now args.store.now
-    feed.new.line feed.new.radices feed.new.weights feed.new.tables feed.new.d feed.new.store (b.start-first.ensures.d_value _ _ _ _ _ _) feed.ensures.store_after in
-    clauses (prints _ _ _ _ _ means finish.finish.ensures.out_after finish.finish.ensures.value)
+    let means = prints-meaning c.start-first.result feed.result args.text.now args.line.now args.radices.now args.weights.now args.tables.now args.d.now args.store.now
+    feed.new.line feed.new.radices feed.new.weights feed.new.tables feed.new.d feed.new.store (c.start-first.ensures.d_value _ _ _ _ _ _) feed.ensures.store_after in
+    clauses (prints _ _ _ _ _ means c.finish.ensures.out_after c.finish.ensures.value)

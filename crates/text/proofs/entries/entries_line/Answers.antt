@@ -14,23 +14,19 @@ store_size-size-requires c = omega (arith, c.columns.ensures, c.requires.fits.0.
 
 pub slice_bounds-entry_line-end : goal.slice_bounds-entry_line-end
 slice_bounds-entry_line-end c =
-    let s = c in
-    sym (length-take-le _ s.args.radices.now s.requires.n_in_bounds.0)
+    sym (length-take-le _ c.args.radices.now c.requires.n_in_bounds.0)
 
 pub slice_bounds-entry_line-end-2 : goal.slice_bounds-entry_line-end-2
 slice_bounds-entry_line-end-2 c =
-    let s = c in
-    sym (length-take-le _ s.args.weights.now s.requires.n_in_bounds.1)
+    sym (length-take-le _ c.args.weights.now c.requires.n_in_bounds.1)
 
 pub slice_bounds-entry_line-end-3 : goal.slice_bounds-entry_line-end-3
 slice_bounds-entry_line-end-3 c =
-    let s = c in
-    sym (length-take-le _ s.args.tables.now s.requires.n_in_bounds.2)
+    sym (length-take-le _ c.args.tables.now c.requires.n_in_bounds.2)
 
 pub slice_bounds-entry_line-end-4 : goal.slice_bounds-entry_line-end-4
 slice_bounds-entry_line-end-4 c =
-    let s = c in
-    sym (length-take-le _ s.args.d.now s.requires.n_in_bounds.3)
+    sym (length-take-le _ c.args.d.now c.requires.n_in_bounds.3)
 
 pub slice_bounds-entry_line-end-5 : goal.slice_bounds-entry_line-end-5
 slice_bounds-entry_line-end-5 c =
@@ -55,10 +51,9 @@ returns-then-cause-ne0 c =
     let sized : (c.store_size-size.result ≡ store_size (columns c.args.plan)) × (c.store_size-size.result ≤ 65340) =
     (store-small _ _ _ c.columns.ensures c.requires.fits.0.1 c.store_size-size.ensures) in
     let entry-line = c.entry_line-cause in
-    let size = c in
-    let s = c in record {
+    record {
       fits_after = tt;
-      store_after = entries-refuses read s.args.store.now s.args.line.now _ _ sized.0 entry-line.ensures.r_value c.if-cause-ne0.true;
+      store_after = entries-refuses read c.args.store.now c.args.line.now _ _ sized.0 entry-line.ensures.r_value c.if-cause-ne0.true;
     }
 
 pub returns : goal.returns
@@ -70,8 +65,7 @@ returns c =
     let inside : c.store_size-size.result ≤ length c.args.store.now =
     (omega (arith, sized.1, c.requires.in_bounds)) in
     let entry-line = c.entry_line-cause in
-    let size = c in
-    let s = c in record {
-      fits_after = s.requires.fits;
-      store_after = entries-reaches read s.args.store.now s.args.line.now _ _ sized.0 entry-line.ensures.r_value _ c.if-cause-ne0.false inside entry-line.ensures.store_after entry-line.auto.store;
+    record {
+      fits_after = c.requires.fits;
+      store_after = entries-reaches read c.args.store.now c.args.line.now _ _ sized.0 entry-line.ensures.r_value _ c.if-cause-ne0.false inside entry-line.ensures.store_after entry-line.auto.store;
     }

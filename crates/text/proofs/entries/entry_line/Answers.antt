@@ -11,8 +11,8 @@ pub returns-then-not-read_line : goal.returns-then-not-read_line
 returns-then-not-read_line c =
     let lent : Given =
     (lend c.args.plan c.args.radices.now c.args.weights.now c.args.tables.now c.args.d.now) in
-    let read = c in record {
-      r_value = entry-thirteen lent c.args.store.now c.args.line.now (sym read.read_line.ensures.0 ∙ not-true _ (ap not c.if-not-read_line.true));
+    record {
+      r_value = entry-thirteen lent c.args.store.now c.args.line.now (sym c.read_line.ensures.0 ∙ not-true _ (ap not c.if-not-read_line.true));
       store_after = refl;
     }
 

@@ -31,8 +31,7 @@ pub slice_bounds-clear-end-2 : goal.slice_bounds-clear-end-2
 slice_bounds-clear-end-2 c =
     let sized : (c.store_size-size.result ≡ store_size (columns c.args.plan)) × (c.store_size-size.result ≤ 65340) =
     (store-small _ _ _ c.columns.ensures c.requires.fits.0.1 c.store_size-size.ensures) in
-    let s = c in
-    sym (length-take-le _ s.args.store.now (omega (arith, sized.1, s.requires.in_bounds)))
+    sym (length-take-le _ c.args.store.now (omega (arith, sized.1, c.requires.in_bounds)))
 
 pub returns : goal.returns
 returns c =
@@ -40,7 +39,7 @@ returns c =
     (store-small _ _ _ c.columns.ensures c.requires.fits.0.1 c.store_size-size.ensures) in
     let size = c in
     let passed = size in
-    let s = c in record {
-      fits_after = s.requires.fits;
-      judgement = λ R w T d. pair-passed (lend s.args.plan _ _ _ _) s.args.line.now s.args.store.now _ _ (sym passed.same.ensures ∙ not-false _ (ap not passed.if-not-same.false)) sized.0 (omega (arith, sized.1, s.requires.in_bounds)) c.clear.ensures;
+    record {
+      fits_after = c.requires.fits;
+      judgement = λ R w T d. pair-passed (lend c.args.plan _ _ _ _) c.args.line.now c.args.store.now _ _ (sym passed.same.ensures ∙ not-false _ (ap not passed.if-not-same.false)) sized.0 (omega (arith, sized.1, c.requires.in_bounds)) c.clear.ensures;
     }

@@ -34,5 +34,4 @@ returns c =
     let narrowed : List ℕ = c.narrow.new.out in
     let front : (rest : List ℕ) → take (length c.args.xs.now) (narrowed ++ rest) ≡ c.args.xs.now =
     (λ rest. take_at narrowed rest (length c.args.xs.now) (ap length c.narrow.ensures) ∙ c.narrow.ensures) in
-    let narrow = c in
     c.radix_refusal.ensures ∙ ap (λ (R : List ℕ). first (radix_causes c.args.p R)) (front _)

@@ -26,18 +26,16 @@ returns-then-not-numbers_below c =
     let asked : asks 5 (length c.args.part.now) c.args.line.now ≡ true =
     (sym asks-is ∙ not-false _ (ap not c.if-not-read_line.false)) in
     let below-is : c.numbers_below.result ≡ all_below c.args.p (numbers c.args.line.now) =
-    (let passed = c in
-    c.numbers_below.ensures ∙ ap (all_below _) (c.read_line.ensures.1 (not-false _ (ap not passed.if-not-read_line.false)))) in record {
+    (c.numbers_below.ensures ∙ ap (all_below _) (c.read_line.ensures.1 (not-false _ (ap not c.if-not-read_line.false)))) in record {
       r_value = part-five _ _ _ asked (sym below-is ∙ not-true _ (ap not c.if-not-numbers_below.true));
       part_after = refl;
     }
 
 pub narrow-requires : goal.narrow-requires
 narrow-requires c =
-    let tested = c in
-    let read = c in record {
-      out_len = sym (read.read_line.auto.out ∙ c.requires.read_len);
-      xs_value = below_more _ read.read_line.new.out 256 c.requires.p_bound (sym tested.numbers_below.ensures ∙ not-false _ (ap not tested.if-not-numbers_below.false));
+    record {
+      out_len = sym (c.read_line.auto.out ∙ c.requires.read_len);
+      xs_value = below_more _ c.read_line.new.out 256 c.requires.p_bound (sym c.numbers_below.ensures ∙ not-false _ (ap not c.if-not-numbers_below.false));
     }
 
 pub returns : goal.returns

@@ -35,7 +35,7 @@ returns-then-not-numbers_below c =
     (sym asks-is ∙ not-false _ (ap not c.if-not-read_line.false)) in
     let read_is : c.read_line.new.out ≡ numbers c.args.line.now =
     (c.read_line.ensures.1 (not-false _ (ap not c.if-not-read_line.false))) in
-    let p = c in record {
+    record {
       r_value = radices-two _ _ _ asked (ap (all_below _) (sym read_is) ∙ sym c.numbers_below.ensures ∙ not-true _ (ap not c.if-not-numbers_below.true));
       radices_after = refl;
     }
@@ -45,7 +45,6 @@ radix_cause-cause-requires c =
     let bytes : all_below 256 c.read_line.new.out ≡ true =
     (let read = c in
     below_more _ read.read_line.new.out 256 (omega (arith, c.ranges)) (sym c.numbers_below.ensures ∙ not-false _ (ap not c.if-not-numbers_below.false))) in
-    let tested = c in
     let read = c in record {
       xs_len_bound = omega (arith, read.read_line.auto.out, c.requires);
       xs_value = bytes;
@@ -60,8 +59,7 @@ returns-then-cause-ne0 c =
     let read_is : c.read_line.new.out ≡ numbers c.args.line.now =
     (c.read_line.ensures.1 (not-false _ (ap not c.if-not-read_line.false))) in
     let cause-is : c.radix_cause-cause.result ≡ first (radices_causes (length c.args.radices.now) c.args.p c.args.line.now) =
-    (let p = c in
-    let args = c.args in
+    (let args = c.args in
     radices-narrow _ args.p args.line.now asked _ (c.radix_cause-cause.ensures ∙ ap (λ (R : List ℕ). first (radix_causes args.p R)) read_is)) in record {
       r_value = cause-is;
       radices_after = sym (leaves-refused _ _ _ (pos_of_ne-zero c.if-cause-ne0.true));
@@ -72,7 +70,6 @@ narrow-requires c =
     let bytes : all_below 256 c.read_line.new.out ≡ true =
     (let read = c in
     below_more _ read.read_line.new.out 256 (omega (arith, c.ranges)) (sym c.numbers_below.ensures ∙ not-false _ (ap not c.if-not-numbers_below.false))) in
-    let tested = c in
     let read = c in record {
       out_len = sym (read.read_line.auto.out ∙ c.requires.read_len);
       xs_value = bytes;
@@ -90,7 +87,6 @@ returns c =
     (let p = c in
     let args = c.args in
     radices-narrow _ args.p args.line.now asked _ (c.radix_cause-cause.ensures ∙ ap (λ (R : List ℕ). first (radix_causes args.p R)) read_is)) in
-    let refusal = c in
     let p = c in record {
       r_value = sym c.if-cause-ne0.false ∙ cause-is;
       radices_after = c.narrow.ensures ∙ read_is;

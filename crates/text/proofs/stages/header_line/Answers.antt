@@ -22,32 +22,28 @@ pub returns-then-columns-gt360 : goal.returns-then-columns-gt360
 returns-then-columns-gt360 c =
     let asked : asks 5 5 c.args.line.now ≡ true =
     (sym c.read_line.ensures.0 ∙ not-false _ (ap not c.if-not-read_line.false)) in
-    let read = c in
-    let read-line = read.read_line in
+    let read-line = c.read_line in
     let accepted = sym c.new.ensures ∙ ap answer_of c.in-Accepted.is in record {
       fits_after = tt;
-      judgement = λ R w T d S. header-wide _ _ (read-line.ensures.1 (not-false _ (ap not read.if-not-read_line.false))) asked _ accepted (rw c.columns.ensures at c.if-columns-gt360.true);
+      judgement = λ R w T d S. header-wide _ _ (read-line.ensures.1 (not-false _ (ap not c.if-not-read_line.false))) asked _ accepted (rw c.columns.ensures at c.if-columns-gt360.true);
     }
 
 pub returns-in-Refused : goal.returns-in-Refused
 returns-in-Refused c =
     let asked : asks 5 5 c.args.line.now ≡ true =
     (sym c.read_line.ensures.0 ∙ not-false _ (ap not c.if-not-read_line.false)) in
-    let read = c in
-    let read-line = read.read_line in record {
+    let read-line = c.read_line in record {
       fits_after = tt;
-      judgement = λ R w T d S. header_refused _ _ (read-line.ensures.1 (not-false _ (ap not read.if-not-read_line.false))) asked _ (sym c.new.ensures ∙ ap answer_of c.in-Refused.is);
+      judgement = λ R w T d S. header_refused _ _ (read-line.ensures.1 (not-false _ (ap not c.if-not-read_line.false))) asked _ (sym c.new.ensures ∙ ap answer_of c.in-Refused.is);
     }
 
 pub returns-else-columns-gt360 : goal.returns-else-columns-gt360
 returns-else-columns-gt360 c =
     let asked : asks 5 5 c.args.line.now ≡ true =
     (sym c.read_line.ensures.0 ∙ not-false _ (ap not c.if-not-read_line.false)) in
-    let checked = c in
-    let read = c in
-    let read-line = read.read_line in
-    let accepted = sym c.new.ensures ∙ ap answer_of checked.in-Accepted.is in
-    let narrow = rw checked.columns.ensures at c.if-columns-gt360.false in record {
+    let read-line = c.read_line in
+    let accepted = sym c.new.ensures ∙ ap answer_of c.in-Accepted.is in
+    let narrow = rw c.columns.ensures at c.if-columns-gt360.false in record {
       fits_after = (accepted-within _ _ _ _ _ _ accepted, narrow);
-      judgement = λ R w T d S. header-passed _ _ (read-line.ensures.1 (not-false _ (ap not read.if-not-read_line.false))) asked _ accepted narrow;
+      judgement = λ R w T d S. header-passed _ _ (read-line.ensures.1 (not-false _ (ap not c.if-not-read_line.false))) asked _ accepted narrow;
     }

@@ -23,7 +23,7 @@ read_part-requires c =
     (length-take-le c.args.count c.numbers_buffer-read.result (omega (arith, c.numbers_buffer-read.ensures, c.requires.1))) in
     let part : length (take (c.args.from + c.args.count - c.args.from) (drop c.args.from c.args.buffer.now)) ≡ c.args.count =
     (cut-length c.args.buffer.now c.args.from c.args.count c.requires.0) in
-    let buffer = c in record {
+    record {
       p_bound = search rules;
       read_len = front ∙ sym part;
     }
@@ -33,8 +33,7 @@ returns c =
     let part : length (take (c.args.from + c.args.count - c.args.from) (drop c.args.from c.args.buffer.now)) ≡ c.args.count =
     (cut-length c.args.buffer.now c.args.from c.args.count c.requires.0) in
     let read-part = c.read_part in
-    let s = c in
-    let e = read-part.ensures.r_value ∙ ap (λ (n : ℕ). first (line_causes n s.args.p s.args.line.now)) part in record {
+    let e = read-part.ensures.r_value ∙ ap (λ (n : ℕ). first (line_causes n c.args.p c.args.line.now)) part in record {
       r_value = e;
-      buffer_after = part_placed s.args.count s.args.p _ s.args.line.now e s.args.buffer.now _ s.args.from s.requires.0 read-part.ensures.part_after;
+      buffer_after = part_placed c.args.count c.args.p _ c.args.line.now e c.args.buffer.now _ c.args.from c.requires.0 read-part.ensures.part_after;
     }

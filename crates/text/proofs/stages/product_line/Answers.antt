@@ -6,18 +6,16 @@ use Rattle.text.proofs.stages.product_line.Goals as goal
 
 pub returns-then-cause-ne0 : goal.returns-then-cause-ne0
 returns-then-cause-ne0 c =
-    let read = c in
     let args = c.args in record {
       fits_after = tt;
-      judgement = λ R w T S. product-refuses args.plan args.j _ _ args.line.now read.part_line-cause.ensures.r_value _ _ _ c.if-cause-ne0.true;
+      judgement = λ R w T S. product-refuses args.plan args.j _ _ args.line.now c.part_line-cause.ensures.r_value _ _ _ c.if-cause-ne0.true;
     }
 
 pub returns : goal.returns
 returns c =
-    let read = c in
     let pre = c.requires in
     let args = c.args in record {
       fits_after = c.after_products.ensures.fits_after;
       judgement = λ R w T S. c.after_products.ensures.judgement R w T _ S
-          ∙ product-reaches args.plan args.j _ _ args.line.now read.part_line-cause.ensures.r_value _ _ args.d.now _ args.c c.if-cause-ne0.false (omega (arith, pre)) read.part_line-cause.ensures.buffer_after;
+          ∙ product-reaches args.plan args.j _ _ args.line.now c.part_line-cause.ensures.r_value _ _ args.d.now _ args.c c.if-cause-ne0.false (omega (arith, pre)) c.part_line-cause.ensures.buffer_after;
     }

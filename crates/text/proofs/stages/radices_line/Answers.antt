@@ -27,9 +27,8 @@ read_radices-cause-requires c =
     (length-take-le c.args.plan.n c.numbers_buffer-read.result (omega (arith, c.numbers_buffer-read.ensures, c.requires.fits.0.variable-limit))) in
     let radices-front : length (take c.args.plan.n c.args.radices.now) ≡ c.args.plan.n =
     (length-take-le c.args.plan.n c.args.radices.now (omega (arith, c.requires.fits.0.variable-limit, c.requires.in_bounds))) in
-    let buffer = c in
-    let s = c in record {
-      radices_len_bound = omega (arith, radices-front, s.requires.fits.0.variable-limit);
+    record {
+      radices_len_bound = omega (arith, radices-front, c.requires.fits.0.variable-limit);
       read_len = numbers-front ∙ sym radices-front;
     }
 
@@ -38,9 +37,7 @@ returns-then-cause-ne0 c =
     let radices-front : length (take c.args.plan.n c.args.radices.now) ≡ c.args.plan.n =
     (length-take-le c.args.plan.n c.args.radices.now (omega (arith, c.requires.fits.0.variable-limit, c.requires.in_bounds))) in
     let cause-is : c.read_radices-cause.result ≡ first (radices_causes c.args.plan.n c.args.plan.p c.args.line.now) =
-    (let s = c in
-    c.read_radices-cause.ensures.r_value ∙ ap (λ (n : ℕ). first (radices_causes n s.args.plan.p s.args.line.now)) radices-front) in
-    let read = c in
+    (c.read_radices-cause.ensures.r_value ∙ ap (λ (n : ℕ). first (radices_causes n c.args.plan.p c.args.line.now)) radices-front) in
     let args = c.args in record {
       fits_after = tt;
       judgement = λ w T d S. radices-refuses args.plan _ args.line.now cause-is c.if-cause-ne0.true;
@@ -53,9 +50,8 @@ returns c =
     let cause-is : c.read_radices-cause.result ≡ first (radices_causes c.args.plan.n c.args.plan.p c.args.line.now) =
     (let s = c in
     c.read_radices-cause.ensures.r_value ∙ ap (λ (n : ℕ). first (radices_causes n s.args.plan.p s.args.line.now)) radices-front) in
-    let read = c in
     let s = c in record {
       fits_after = c.after_links.ensures.fits_after;
       judgement = λ w T d S. c.after_links.ensures.judgement _ w T d S
-          ∙ radices-reaches s.args.plan _ s.args.line.now cause-is _ _ _ c.if-cause-ne0.false (read.read_radices-cause.auto.radices ∙ radices-front) read.read_radices-cause.ensures.radices_after;
+          ∙ radices-reaches s.args.plan _ s.args.line.now cause-is _ _ _ c.if-cause-ne0.false (c.read_radices-cause.auto.radices ∙ radices-front) c.read_radices-cause.ensures.radices_after;
     }

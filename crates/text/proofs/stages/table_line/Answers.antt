@@ -12,10 +12,9 @@ part_line-cause-requires c =
 
 pub returns-then-cause-ne0 : goal.returns-then-cause-ne0
 returns-then-cause-ne0 c =
-    let read = c in
     let args = c.args in record {
       fits_after = tt;
-      judgement = λ R w d S. table-refuses args.plan args.k _ _ args.line.now read.part_line-cause.ensures.r_value _ _ _ c.if-cause-ne0.true;
+      judgement = λ R w d S. table-refuses args.plan args.k _ _ args.line.now c.part_line-cause.ensures.r_value _ _ _ c.if-cause-ne0.true;
     }
 
 pub after_links-requires : goal.after_links-requires
@@ -27,10 +26,9 @@ after_links-requires c =
 
 pub returns : goal.returns
 returns c =
-    let read = c in
     let pre = c.requires in
     let args = c.args in record {
       fits_after = c.after_links.ensures.fits_after;
       judgement = λ R w d S. c.after_links.ensures.judgement R w _ d S
-          ∙ table-reaches args.plan args.k _ _ args.line.now read.part_line-cause.ensures.r_value _ args.tables.now _ _ args.b c.if-cause-ne0.false (omega (arith, pre, prime-high pre.fits.0.0)) read.part_line-cause.ensures.buffer_after;
+          ∙ table-reaches args.plan args.k _ _ args.line.now c.part_line-cause.ensures.r_value _ args.tables.now _ _ args.b c.if-cause-ne0.false (omega (arith, pre, prime-high pre.fits.0.0)) c.part_line-cause.ensures.buffer_after;
     }

@@ -12,19 +12,17 @@ bounds-chunk-i c = omega (arith, c.loop-i-test.true)
 
 pub push-now-requires : goal.push-now-requires
 push-now-requires c =
-    let t = c in
-    let f = t.loop-i.invariant in
+    let f = c.loop-i.invariant in
     let pre = c.requires in
     let limits = pre.held_bound in record {
       fits = f.fits;
-      held_bound = (f.held, omega (arith, limits, f.line_same), omega (arith, limits, f.number, t.loop-i-test.true));
+      held_bound = (f.held, omega (arith, limits, f.line_same), omega (arith, limits, f.number, c.loop-i-test.true));
       buffer_sizes = sizes-kept pre.buffer_sizes f.kept;
     }
 
 pub overflow_add-i : goal.overflow_add-i
 overflow_add-i c =
-    let t = c in
-    omega (arith, t.loop-i-test.true, c.requires.held_bound)
+    omega (arith, c.loop-i-test.true, c.requires.held_bound)
 
 pub loop-i-smaller : goal.loop-i-smaller
 loop-i-smaller c = omega (arith, c.loop-i-test.true)
@@ -32,8 +30,7 @@ loop-i-smaller c = omega (arith, c.loop-i-test.true)
 pub loop-i-preserved : goal.loop-i-preserved
 loop-i-preserved c =
     let push = c.push-now in
-    let t = c in
-    feeding-next t.loop-i.invariant _ _ _ _ _ _ _ t.loop-i-test.true push.ensures.fits_2 push.ensures.store_after push.auto.line (push.auto.radices, (push.auto.weights, (push.auto.tables, (push.auto.d, (push.auto.store, tt)))))
+    feeding-next c.loop-i.invariant _ _ _ _ _ _ _ c.loop-i-test.true push.ensures.fits_2 push.ensures.store_after push.auto.line (push.auto.radices, (push.auto.weights, (push.auto.tables, (push.auto.d, (push.auto.store, tt)))))
 
 pub returns : goal.returns
 returns c =

@@ -7,49 +7,43 @@ use Rattle.text.proofs.turns.judge.Goals as goal
 
 pub radices_line-requires : goal.radices_line-requires
 radices_line-requires c =
-    let told = c in
     let pre = c.requires in record {
-      fits = subst Fits told.in-Radices.is pre.fits;
+      fits = subst Fits c.in-Radices.is pre.fits;
       in_bounds = pre.buffer_sizes.radices-room;
     }
 
 pub weights_line-requires : goal.weights_line-requires
 weights_line-requires c =
-    let told = c in
     let pre = c.requires in record {
-      fits = subst Fits told.in-Weights.is pre.fits;
+      fits = subst Fits c.in-Weights.is pre.fits;
       in_bounds = pre.buffer_sizes.weights-room;
     }
 
 pub table_line-requires : goal.table_line-requires
 table_line-requires c =
-    let told = c in
     let pre = c.requires in record {
-      fits = subst Fits told.in-Table.is pre.fits;
+      fits = subst Fits c.in-Table.is pre.fits;
       in_bounds = pre.buffer_sizes.tables-room;
     }
 
 pub product_line-requires : goal.product_line-requires
 product_line-requires c =
-    let told = c in
     let pre = c.requires in record {
-      fits = subst Fits told.in-Product.is pre.fits;
+      fits = subst Fits c.in-Product.is pre.fits;
       in_bounds = pre.buffer_sizes.products-room;
     }
 
 pub pair_line-requires : goal.pair_line-requires
 pair_line-requires c =
-    let told = c in
     let pre = c.requires in record {
-      fits = subst Fits told.in-EntryNames.is pre.fits;
+      fits = subst Fits c.in-EntryNames.is pre.fits;
       in_bounds = pre.buffer_sizes.store-room;
     }
 
 pub entries_line-requires : goal.entries_line-requires
 entries_line-requires c =
-    let told = c in
     let pre = c.requires in
-    let fits = subst Fits told.in-Entries.is pre.fits in
+    let fits = subst Fits c.in-Entries.is pre.fits in
     let room = pre.buffer_sizes in record {
       fits = fits;
       n_in_bounds = (omega (arith, fits.0.0.variable-limit, room.radices-room), omega (arith, fits.1, room.weights-room), omega (arith, fits.2, room.tables-room), omega (arith, fits.3, room.products-room));

@@ -10,18 +10,16 @@ use Rattle.text.proofs.turns.push.Goals as goal
 
 pub slice_bounds-judge-end-then-x-eq10 : goal.slice_bounds-judge-end-then-x-eq10
 slice_bounds-judge-end-then-x-eq10 c =
-    let s = c in
-    sym (length-take-le _ s.args.line.now (omega (arith, s.requires.held_bound)))
+    sym (length-take-le _ c.args.line.now (omega (arith, c.requires.held_bound)))
 
 pub returns-then-x-eq10 : goal.returns-then-x-eq10
 returns-then-x-eq10 c =
     let judge = c.judge-next in
-    let end = c in
     let args = c.args in
     let s = args.state in
     let o = judged_of s.stage args.radices.now args.weights.now args.tables.now args.d.now args.store.now in record {
       fits_2 = (subst Fits (sym c.turn.ensures.stage_value.0) judge.ensures.fits_2, omega (arith, c.turn.ensures.stage_value.1), c.turn.ensures.stage_value.2);
-      store_after = c.turn.ensures.d_value _ _ _ _ _ _ ∙ ap (turned s.line) judge.ensures.store_after ∙ push-lf s.line (take s.held args.line.now) o args.x end.if-x-eq10.true;
+      store_after = c.turn.ensures.d_value _ _ _ _ _ _ ∙ ap (turned s.line) judge.ensures.store_after ∙ push-lf s.line (take s.held args.line.now) o args.x c.if-x-eq10.true;
     }
 
 pub returns-then-held-lt1024 : goal.returns-then-held-lt1024

@@ -37,7 +37,6 @@ returns-then-not-radices_fit c =
     (sym c.is_odd_prime.ensures ∙ not-false _ (ap not c.if-not-is_odd_prime.false)) in
     let value : let a = c.args in bad_radix a.p a.s ≡ false =
     (not-true _ (sym c.radix_fits.ensures ∙ not-false _ (ap not c.if-not-radix_fits.false))) in
-    let v = c in
     refused-radices _ _ _ _ _ _ prime value (sym c.radices_fit.ensures ∙ not-true _ (ap not c.if-not-radices_fit.true))
 
 pub returns-then-not-in_range : goal.returns-then-not-in_range
@@ -48,8 +47,6 @@ returns-then-not-in_range c =
     (not-true _ (sym c.radix_fits.ensures ∙ not-false _ (ap not c.if-not-radix_fits.false))) in
     let fit : let a = c.args in radices_fit a.p a.radices.now ≡ true =
     (sym c.radices_fit.ensures ∙ not-false _ (ap not c.if-not-radices_fit.false)) in
-    let f = c in
-    let v = c in
     refused-range _ _ _ _ _ _ prime value fit (not-false _ (sym c.in_range.ensures ∙ not-true _ (ap not c.if-not-in_range.true)))
 
 pub product-requires : goal.product-requires
@@ -68,9 +65,6 @@ returns-then-product-gt-ENTRIES c =
     (sym c.radices_fit.ensures ∙ not-false _ (ap not c.if-not-radices_fit.false)) in
     let range : let a = c.args in out_of_range a.n a.m a.t ≡ false =
     (not-true _ (sym c.in_range.ensures ∙ not-false _ (ap not c.if-not-in_range.false))) in
-    let r = c in
-    let f = c in
-    let v = c in
     let far : 4096 < product c.args.radices.now = omega (arith, c.product.ensures) in
     refused-product _ _ _ _ _ _ prime value fit range far
 
@@ -90,7 +84,6 @@ overflow_cast-result-2 c =
     (((odd_prime-means c.args.p).0 prime).1) in
     let value : let a = c.args in bad_radix a.p a.s ≡ false =
     (not-true _ (sym c.radix_fits.ensures ∙ not-false _ (ap not c.if-not-radix_fits.false))) in
-    let v = c in
     let a = c.args in
     omega (arith, prime-limit, (radix-facts a.p a.s value).1)
 
@@ -104,8 +97,5 @@ returns c =
     (sym c.radices_fit.ensures ∙ not-false _ (ap not c.if-not-radices_fit.false)) in
     let range : let a = c.args in out_of_range a.n a.m a.t ≡ false =
     (not-true _ (sym c.in_range.ensures ∙ not-false _ (ap not c.if-not-in_range.false))) in
-    let r = c in
-    let f = c in
-    let v = c in
     let near : product c.args.radices.now ≤ 4096 = omega (arith, c.product.ensures) in
     accepts _ _ _ _ _ _ prime value fit range near
