@@ -1,4 +1,4 @@
-// The library for hosts: every call as a C function over the entry points below, with the prefix `celery_`.
+// The library for hosts: every call over the entry points below, with the prefix `celery_`; `celerycrag_c` exports each to C.
 //
 // An answer is 01's number, 0 where the call is accepted; what else an answer carries goes through a lent number, which a refusal leaves
 // alone, but for the line that comes with 13 and 15. The two calls with records stand here alone: what they decide is in `ledger`, and `records` has
@@ -27,8 +27,7 @@ ghost use Rattle.celerycrag.specs.Numbers as specs;
 use records::Record;
 
 // Checks a plan: causes 1 2 3 4 5.
-#[unsafe(no_mangle)]
-pub extern "C" fn celery_check(
+pub fn celery_check(
     p: usize,
     s: usize,
     n: usize,
@@ -45,8 +44,7 @@ pub extern "C" fn celery_check(
 }
 
 // Fills `row`, of exactly C bytes, with row `entry`: causes 1 2 3 4 5 7.
-#[unsafe(no_mangle)]
-pub extern "C" fn celery_row(
+pub fn celery_row(
     p: usize,
     s: usize,
     n: usize,
@@ -66,8 +64,7 @@ pub extern "C" fn celery_row(
 }
 
 // Tests a store: causes 1 2 3 4 5 6.
-#[unsafe(no_mangle)]
-pub extern "C" fn celery_test(
+pub fn celery_test(
     p: usize,
     s: usize,
     n: usize,
@@ -86,8 +83,7 @@ pub extern "C" fn celery_test(
 
 // Files an entry with its value: causes 1 to 9. `column` becomes the pivot column where the entry is new, and C, which is no
 // column, where the store implied it.
-#[unsafe(no_mangle)]
-pub extern "C" fn celery_file(
+pub fn celery_file(
     p: usize,
     s: usize,
     n: usize,
@@ -124,8 +120,7 @@ pub extern "C" fn celery_file(
 
 // Files an entry with its value, beside the records: causes 1 2 3 4 5 6 16 7 8 9. An entry that is not listed joins the records. `column` as of
 // `celery_file`; the work store is all zeros after a call that passes cause 5.
-#[unsafe(no_mangle)]
-pub extern "C" fn celery_file_recorded(
+pub fn celery_file_recorded(
     p: usize,
     s: usize,
     n: usize,
@@ -157,8 +152,7 @@ pub extern "C" fn celery_file_recorded(
 
 // Withdraws an entry: causes 1 2 3 4 5 6 16 7 17. Its record goes, and the store is that of the records left. `value` becomes the value
 // withdrawn; the work store is all zeros after a call that passes cause 5.
-#[unsafe(no_mangle)]
-pub extern "C" fn celery_withdraw(
+pub fn celery_withdraw(
     p: usize,
     s: usize,
     n: usize,
@@ -188,8 +182,7 @@ pub extern "C" fn celery_withdraw(
 
 // How an entry stands on a store: causes 1 2 3 4 5 6 7. Forced, `residue` becomes the residue and `column` C, which is no column. Free,
 // `column` becomes the column and `residue` p, which is no residue.
-#[unsafe(no_mangle)]
-pub extern "C" fn celery_settle(
+pub fn celery_settle(
     p: usize,
     s: usize,
     n: usize,
@@ -228,8 +221,7 @@ pub extern "C" fn celery_settle(
 }
 
 // Reads the coefficients off a store into `beta`, of exactly C bytes: causes 1 2 3 4 5 6.
-#[unsafe(no_mangle)]
-pub extern "C" fn celery_coefficients(
+pub fn celery_coefficients(
     p: usize,
     s: usize,
     n: usize,
@@ -249,8 +241,7 @@ pub extern "C" fn celery_coefficients(
 }
 
 // Whether a plan suits every table: causes 1 2 3 4 5. `general` becomes 1 for yes and 0 for no, and the work store is all zeros.
-#[unsafe(no_mangle)]
-pub extern "C" fn celery_general(
+pub fn celery_general(
     p: usize,
     s: usize,
     n: usize,
@@ -282,8 +273,7 @@ pub extern "C" fn celery_general(
 }
 
 // Moves a store from the layout before, C rows of C + 1 bytes, to the new one: causes 1 2 3 4 5 6.
-#[unsafe(no_mangle)]
-pub extern "C" fn celery_to_half(
+pub fn celery_to_half(
     p: usize,
     s: usize,
     n: usize,
@@ -303,8 +293,7 @@ pub extern "C" fn celery_to_half(
 }
 
 // Moves a store back to the layout before: causes 1 2 3 4 5 6.
-#[unsafe(no_mangle)]
-pub extern "C" fn celery_to_full(
+pub fn celery_to_full(
     p: usize,
     s: usize,
     n: usize,
@@ -324,8 +313,7 @@ pub extern "C" fn celery_to_full(
 }
 
 // The number that `celery_write` would answer; nothing is written.
-#[unsafe(no_mangle)]
-pub extern "C" fn celery_check_writing(
+pub fn celery_check_writing(
     p: usize,
     s: usize,
     n: usize,
@@ -344,8 +332,7 @@ pub extern "C" fn celery_check_writing(
 }
 
 // Writes the program at the front of `steps`: causes 1 2 3 4 5 10. `written` becomes 4 times the step count.
-#[unsafe(no_mangle)]
-pub extern "C" fn celery_write(
+pub fn celery_write(
     p: usize,
     s: usize,
     n: usize,
@@ -374,8 +361,7 @@ pub extern "C" fn celery_write(
 }
 
 // Runs a list of steps on n digits: causes 1 2 3 4 5 11 12. `y` and `bootstraps` become the output and the number of bootstraps.
-#[unsafe(no_mangle)]
-pub extern "C" fn celery_run(
+pub fn celery_run(
     p: usize,
     s: usize,
     n: usize,
@@ -406,8 +392,7 @@ pub extern "C" fn celery_run(
 }
 
 // The coefficients from a list of steps into `beta`, of exactly C bytes: causes 1 2 3 4 5 15.
-#[unsafe(no_mangle)]
-pub extern "C" fn celery_read_steps(
+pub fn celery_read_steps(
     p: usize,
     s: usize,
     n: usize,
@@ -428,8 +413,7 @@ pub extern "C" fn celery_read_steps(
 
 // The coefficients from a listing, a text lent whole, into `beta`, of exactly C bytes: causes 1 2 3 4 5, then 13 and 15, with which `line`
 // becomes the line that met them.
-#[unsafe(no_mangle)]
-pub extern "C" fn celery_read_listing(
+pub fn celery_read_listing(
     p: usize,
     s: usize,
     n: usize,
@@ -459,8 +443,7 @@ pub extern "C" fn celery_read_listing(
 }
 
 // The worst norm of a plan's weights and coefficients: causes 1 2 3 4 5.
-#[unsafe(no_mangle)]
-pub extern "C" fn celery_worst_norm(
+pub fn celery_worst_norm(
     p: usize,
     s: usize,
     n: usize,

@@ -14,7 +14,7 @@ use std::ops::Range;
 
 /// The three files with functions, as paths from the root of the repository.
 const FILES: [&str; 3] = [
-    "crates/celerycrag/src/lib.rt",
+    "crates/celerycrag_c/src/lib.rt",
     "include/celerycrag.h",
     "rust/celerycrag/src/ffi.rs",
 ];

@@ -9,6 +9,7 @@
 mod calls;
 
 use crate::{Filed, General, Record, Reread, Settled, Withdrawn};
+pub use crate::interface::difference;
 pub use calls::{Calls, Lent, Recorded, Reference};
 use std::fmt::Display;
 
@@ -353,28 +354,4 @@ pub fn output<C: Calls + Default>(vectors: &str) -> Vec<u8> {
     let lines = vectors.split_terminator('\n');
     lines.for_each(|line| cases.line(line));
     cases.out
-}
-
-/// The first line in which an output differs from the stored one, with the
-/// name and the call above it.
-pub fn difference(stored: &str, given: &str) -> Option<String> {
-    let (mut name, mut call) = ("", "");
-    let (mut stored, mut given) = (stored.split('\n'), given.split('\n'));
-    for number in 1.. {
-        match (stored.next(), given.next()) {
-            (None, None) => break,
-            (Some(line), Some(same)) if line == same => match line {
-                _ if line.starts_with('#') => name = line,
-                _ if line.contains("::") => call = line,
-                _ => {}
-            },
-            (stored, given) => {
-                let both = format!("stored {stored:?}, given {given:?}");
-                return Some(format!(
-                    "line {number}, under {name:?}, of {call:?}: {both}"
-                ));
-            }
-        }
-    }
-    None
 }

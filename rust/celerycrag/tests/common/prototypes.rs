@@ -388,7 +388,7 @@ impl<'a> Reader<'a> {
     }
 }
 
-/// crates/celerycrag/src/lib.rt: what it imports, and exported functions with
+/// crates/celerycrag_c/src/lib.rt: what it imports, and exported functions with
 /// their contracts and bodies. It has nothing else.
 pub fn library(text: &str) -> Result<Reading, Refused> {
     let mut reader = Reader::new("lib.rt", text);
