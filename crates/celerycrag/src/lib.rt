@@ -1,4 +1,5 @@
-// The library for hosts: every call over the entry points below, with the prefix `celery_`; `celerycrag_c` exports each to C.
+// The library for hosts: every call over the entry points below, with the prefix `celery_`; `celerycrag_c` exports each to C. So a plan comes as
+// C hands it over, number by number and part by part.
 //
 // An answer is 01's number, 0 where the call is accepted; what else an answer carries goes through a lent number, which a refusal leaves
 // alone, but for the line that comes with 13 and 15. The two calls with records stand here alone: what they decide is in `ledger`, and `records` has
@@ -8,14 +9,16 @@
 #![tactic(auto)]
 
 ghost use Rattle.std.specs.Prelude.{◌≡◌, ◌*◌};
-ghost use Rattle.plan.specs.Causes.{first, leaves, number_of};
-ghost use Rattle.plan.specs.Numbers.{plan, columns};
+ghost use Rattle.plan.specs.Causes.{first, leaves, number_of, refusal_of};
+ghost use Rattle.plan.specs.Numbers.{plan, columns, Within};
 ghost use Rattle.plan.specs.Parts.{given, check_causes};
+ghost use Rattle.plan.specs.Lending.{given_of};
 ghost use Rattle.plan.specs.Rows as rows;
 ghost use Rattle.store.specs.Calls as stores;
 ghost use Rattle.store.specs.Settled as settled;
 ghost use Rattle.moves.specs.Moves as moves;
 ghost use Rattle.ledger.specs.Calls as ledgers;
+ghost use Rattle.ledger.specs.Stages.{put_for, gone_for};
 ghost use Rattle.general.specs.Suits as suits;
 ghost use Rattle.program.specs.Layout.{step_count};
 ghost use Rattle.program.specs.Calls as programs;
@@ -24,7 +27,82 @@ ghost use Rattle.readback.specs.Recovery as recovery;
 ghost use Rattle.readback.specs.Listings as listings;
 ghost use Rattle.celerycrag.specs.Numbers as specs;
 
+use ledger::{Placed, Taken};
+use plan::{LentPlan, Plan, Refusal};
 use records::Record;
+use store::{Filed, Settled};
+
+// The plan that a call is lent, in one piece.
+fn lent<'a>(
+    p: usize,
+    s: usize,
+    n: usize,
+    m: usize,
+    t: usize,
+    radices: &'a [u8],
+    weights: &'a [u8],
+    tables: &'a [u8],
+    d: &'a [u8],
+) -> LentPlan<'a>
+    ensures { given_of result ≡ given p s n m t radices.now weights.now tables.now d.now }
+{
+    LentPlan {
+        p,
+        s,
+        n,
+        m,
+        t,
+        radices,
+        weights,
+        tables,
+        products: d,
+    }
+}
+
+// The numbers of a plan that is accepted, so that p and s fit in a byte.
+fn accepted(lent: &LentPlan) -> Plan
+    requires { Within (given_of lent.now).numbers }
+    ensures value { result ≡ (given_of lent.now).numbers }
+    ensures within { Within result }
+{
+    Plan {
+        p: lent.p as u8,
+        s: lent.s as u8,
+        n: lent.n,
+        m: lent.m,
+        t: lent.t,
+    }
+}
+
+// What filing leaves to do of the records, and its number.
+fn add_record(records: &mut [Record], placed: Result<Placed, Refusal>) -> u8
+    ensures number { result ≡ refusal_of placed }
+    ensures records_after { records.new ≡ put_for records.old placed }
+{
+    match placed {
+        Ok(placed) => {
+            if let Some(at) = placed.at {
+                records::put(records, at, placed.entry, placed.value);
+            }
+            0
+        }
+        Err(refusal) => refusal.number(),
+    }
+}
+
+// What withdrawing leaves to do of the records, and its number.
+fn remove_record(records: &mut [Record], taken: Result<Taken, Refusal>) -> u8
+    ensures number { result ≡ refusal_of taken }
+    ensures records_after { records.new ≡ gone_for records.old taken }
+{
+    match taken {
+        Ok(taken) => {
+            records::remove_at(records, taken.count, taken.at);
+            0
+        }
+        Err(refusal) => refusal.number(),
+    }
+}
 
 // Checks a plan: causes 1 2 3 4 5.
 pub fn celery_check(
@@ -40,7 +118,8 @@ pub fn celery_check(
 ) -> u8
     ensures { result ≡ first (check_causes (given p s n m t radices.now weights.now tables.now d.now)) }
 {
-    plan::check(p, s, n, m, t, radices, weights, tables, d)
+    let lent = lent(p, s, n, m, t, radices, weights, tables, d);
+    plan::number_of(plan::check(&lent))
 }
 
 // Fills `row`, of exactly C bytes, with row `entry`: causes 1 2 3 4 5 7.
@@ -60,7 +139,8 @@ pub fn celery_row(
     ensures r_value { result ≡ first (rows.row_causes (given p s n m t radices.now weights.now tables.now d.now) entry row.old) }
     ensures row_after { row.new ≡ leaves result (rows.row (given p s n m t radices.now weights.now tables.now d.now) entry) row.old }
 {
-    plan::row(p, s, n, m, t, radices, weights, tables, d, entry, row)
+    let lent = lent(p, s, n, m, t, radices, weights, tables, d);
+    plan::number_of(plan::row(&lent, entry, row))
 }
 
 // Tests a store: causes 1 2 3 4 5 6.
@@ -78,7 +158,8 @@ pub fn celery_test(
 ) -> u8
     ensures { result ≡ first (stores.test_causes (given p s n m t radices.now weights.now tables.now d.now) store.now) }
 {
-    store::test(p, s, n, m, t, radices, weights, tables, d, store)
+    let lent = lent(p, s, n, m, t, radices, weights, tables, d);
+    plan::number_of(store::test(&lent, store))
 }
 
 // Files an entry with its value: causes 1 to 9. `column` becomes the pivot column where the entry is new, and C, which is no
@@ -102,19 +183,16 @@ pub fn celery_file(
     ensures store_after { store.new ≡ stores.file_store (given p s n m t radices.now weights.now tables.now d.now) store.old entry value }
     ensures column_after { column.new ≡ stores.column_of (stores.file_answer (given p s n m t radices.now weights.now tables.now d.now) store.old entry value) (columns (plan p s n m t)) column.old }
 {
-    let a = store::file(
-        p, s, n, m, t, radices, weights, tables, d, store, entry, value,
-    );
-    match a {
-        store::Filed::New(c) => {
-            *column = c;
+    let lent = lent(p, s, n, m, t, radices, weights, tables, d);
+    match store::file(&lent, store, entry, value) {
+        Ok(filed) => {
+            *column = match filed {
+                Filed::New(c) => c,
+                Filed::Implied => accepted(&lent).columns(),
+            };
             0
         }
-        store::Filed::Implied => {
-            *column = (t + 1) * (n + m);
-            0
-        }
-        store::Filed::Refused(k) => k,
+        Err(refusal) => refusal.number(),
     }
 }
 
@@ -142,12 +220,9 @@ pub fn celery_file_recorded(
 {
     let mut list = ledger::list_buffer();
     let size = records::unpack(&mut list, &*records);
-    let placed = ledger::file_listed(
-        p, s, n, m, t, radices, weights, tables, d, store, work, &list, size, count, entry, value,
-        column,
-    );
-    records::put(records, placed.at, placed.entry, placed.value);
-    placed.number
+    let lent = lent(p, s, n, m, t, radices, weights, tables, d);
+    let placed = ledger::file_listed(&lent, store, work, &list, size, count, entry, value, column);
+    add_record(records, placed)
 }
 
 // Withdraws an entry: causes 1 2 3 4 5 6 16 7 17. Its record goes, and the store is that of the records left. `value` becomes the value
@@ -173,11 +248,9 @@ pub fn celery_withdraw(
 {
     let mut list = ledger::list_buffer();
     let size = records::unpack(&mut list, &*records);
-    let taken = ledger::withdraw_listed(
-        p, s, n, m, t, radices, weights, tables, d, store, work, &list, size, count, entry, value,
-    );
-    records::remove_at(records, taken.count, taken.at);
-    taken.number
+    let lent = lent(p, s, n, m, t, radices, weights, tables, d);
+    let taken = ledger::withdraw_listed(&lent, store, work, &list, size, count, entry, value);
+    remove_record(records, taken)
 }
 
 // How an entry stands on a store: causes 1 2 3 4 5 6 7. Forced, `residue` becomes the residue and `column` C, which is no column. Free,
@@ -201,22 +274,17 @@ pub fn celery_settle(
     ensures residue_after { residue.new ≡ specs.case_of (settled.settle_answer (given p s n m t radices.now weights.now tables.now d.now) store.now entry) 0 p residue.old }
     ensures column_after { column.new ≡ specs.case_of (settled.settle_answer (given p s n m t radices.now weights.now tables.now d.now) store.now entry) 1 (columns (plan p s n m t)) column.old }
 {
-    let a = store::settle(p, s, n, m, t, radices, weights, tables, d, store, entry);
-    match a {
-        store::Settled::Forced(v) => {
-            let no_column = (t + 1) * (n + m);
-            *residue = v;
-            *column = no_column;
+    let lent = lent(p, s, n, m, t, radices, weights, tables, d);
+    match store::settle(&lent, store, entry) {
+        Ok(settled) => {
+            let plan = accepted(&lent);
+            (*residue, *column) = match settled {
+                Settled::Forced(v) => (v, plan.columns()),
+                Settled::Free(c) => (plan.p, c),
+            };
             0
         }
-        store::Settled::Free(c) => {
-            // the plan was accepted, so p fits
-            let no_residue = p as u8;
-            *residue = no_residue;
-            *column = c;
-            0
-        }
-        store::Settled::Refused(k) => k,
+        Err(refusal) => refusal.number(),
     }
 }
 
@@ -237,7 +305,8 @@ pub fn celery_coefficients(
     ensures r_value { result ≡ first (stores.coefficients_causes (given p s n m t radices.now weights.now tables.now d.now) store.now beta.old) }
     ensures beta_after { beta.new ≡ leaves result (stores.coefficients (columns (plan p s n m t)) store.now) beta.old }
 {
-    store::coefficients(p, s, n, m, t, radices, weights, tables, d, store, beta)
+    let lent = lent(p, s, n, m, t, radices, weights, tables, d);
+    plan::number_of(store::coefficients(&lent, store, beta))
 }
 
 // Whether a plan suits every table: causes 1 2 3 4 5. `general` becomes 1 for yes and 0 for no, and the work store is all zeros.
@@ -258,17 +327,13 @@ pub fn celery_general(
     ensures work_after { work.new ≡ suits.general_work (given p s n m t radices.now weights.now tables.now d.now) work.old }
     ensures general_after { general.new ≡ specs.value_of (suits.general_answer (given p s n m t radices.now weights.now tables.now d.now) work.old) 0 general.old }
 {
-    let a = general::general(p, s, n, m, t, radices, weights, tables, d, work);
-    match a {
-        general::Suited::Yes => {
-            *general = 1;
+    let lent = lent(p, s, n, m, t, radices, weights, tables, d);
+    match general::general(&lent, work) {
+        Ok(suits) => {
+            *general = u8::from(suits);
             0
         }
-        general::Suited::No => {
-            *general = 0;
-            0
-        }
-        general::Suited::Refused(k) => k,
+        Err(refusal) => refusal.number(),
     }
 }
 
@@ -289,7 +354,8 @@ pub fn celery_to_half(
     ensures r_value { result ≡ first (moves.to_half_causes (given p s n m t radices.now weights.now tables.now d.now) full.now half.old) }
     ensures half_after { half.new ≡ leaves result (moves.halved (columns (plan p s n m t)) full.now) half.old }
 {
-    moves::to_half(p, s, n, m, t, radices, weights, tables, d, full, half)
+    let lent = lent(p, s, n, m, t, radices, weights, tables, d);
+    plan::number_of(moves::to_half(&lent, full, half))
 }
 
 // Moves a store back to the layout before: causes 1 2 3 4 5 6.
@@ -309,7 +375,8 @@ pub fn celery_to_full(
     ensures r_value { result ≡ first (moves.to_full_causes (given p s n m t radices.now weights.now tables.now d.now) half.now full.old) }
     ensures full_after { full.new ≡ leaves result (moves.widened (columns (plan p s n m t)) half.now) full.old }
 {
-    moves::to_full(p, s, n, m, t, radices, weights, tables, d, half, full)
+    let lent = lent(p, s, n, m, t, radices, weights, tables, d);
+    plan::number_of(moves::to_full(&lent, half, full))
 }
 
 // The number that `celery_write` would answer; nothing is written.
@@ -328,7 +395,8 @@ pub fn celery_check_writing(
 ) -> u8
     ensures { result ≡ first (programs.write_causes (given p s n m t radices.now weights.now tables.now d.now) beta.now steps.now) }
 {
-    program::check_writing(p, s, n, m, t, radices, weights, tables, d, beta, steps)
+    let lent = lent(p, s, n, m, t, radices, weights, tables, d);
+    plan::number_of(program::check_writing(&lent, beta, steps))
 }
 
 // Writes the program at the front of `steps`: causes 1 2 3 4 5 10. `written` becomes 4 times the step count.
@@ -350,14 +418,14 @@ pub fn celery_write(
     ensures steps_after { steps.new ≡ programs.written result (plan p s n m t) weights.now d.now beta.now steps.old }
     ensures written_after { written.new ≡ specs.length_of result (4 * step_count (plan p s n m t)) written.old }
 {
-    let k = program::write_into(p, s, n, m, t, radices, weights, tables, d, beta, steps);
-    if k == 0 {
-        // the plan was accepted, so p and s fit
-        let p = p as u8;
-        let s = s as u8;
-        *written = 4 * program::step_count(plan::Plan { p, s, n, m, t });
+    let lent = lent(p, s, n, m, t, radices, weights, tables, d);
+    match program::write_into(&lent, beta, steps) {
+        Ok(length) => {
+            *written = length;
+            0
+        }
+        Err(refusal) => refusal.number(),
     }
-    k
 }
 
 // Runs a list of steps on n digits: causes 1 2 3 4 5 11 12. `y` and `bootstraps` become the output and the number of bootstraps.
@@ -380,14 +448,14 @@ pub fn celery_run(
     ensures y_after { y.new ≡ specs.value_of (programs.run_answer (given p s n m t radices.now weights.now tables.now d.now) steps.now digits.now) 0 y.old }
     ensures bootstraps_after { bootstraps.new ≡ specs.value_of (programs.run_answer (given p s n m t radices.now weights.now tables.now d.now) steps.now digits.now) 1 bootstraps.old }
 {
-    let a = program::run(p, s, n, m, t, radices, weights, tables, d, steps, digits);
-    match a {
-        program::Ran::Done(v, b) => {
-            *y = v;
-            *bootstraps = b;
+    let lent = lent(p, s, n, m, t, radices, weights, tables, d);
+    match program::run(&lent, steps, digits) {
+        Ok(ran) => {
+            *y = ran.y;
+            *bootstraps = ran.bootstraps;
             0
         }
-        program::Ran::Refused(k) => k,
+        Err(refusal) => refusal.number(),
     }
 }
 
@@ -408,7 +476,8 @@ pub fn celery_read_steps(
     ensures r_value { result ≡ first (recovery.steps_causes (given p s n m t radices.now weights.now tables.now d.now) steps.now beta.old) }
     ensures beta_after { beta.new ≡ leaves result (recovery.recovered (plan p s n m t) steps.now) beta.old }
 {
-    readback::read_steps(p, s, n, m, t, radices, weights, tables, d, steps, beta)
+    let lent = lent(p, s, n, m, t, radices, weights, tables, d);
+    plan::number_of(readback::read_steps(&lent, steps, beta))
 }
 
 // The coefficients from a listing, a text lent whole, into `beta`, of exactly C bytes: causes 1 2 3 4 5, then 13 and 15, with which `line`
@@ -431,13 +500,14 @@ pub fn celery_read_listing(
     ensures beta_after { beta.new ≡ listings.listing_left (given p s n m t radices.now weights.now tables.now d.now) text.now beta.old }
     ensures line_after { line.new ≡ specs.line_after (listings.listing_answer (given p s n m t radices.now weights.now tables.now d.now) text.now beta.old).1 line.old }
 {
-    let a = readback::read_listing(p, s, n, m, t, radices, weights, tables, d, text, beta);
-    match a {
-        readback::Reread::Read => 0,
-        readback::Reread::Refused(k) => k,
-        readback::Reread::RefusedAt(k, j) => {
-            *line = j;
-            k
+    let lent = lent(p, s, n, m, t, radices, weights, tables, d);
+    match readback::read_listing(&lent, text, beta) {
+        Ok(()) => 0,
+        Err(unread) => {
+            if let Some(j) = unread.line {
+                *line = j;
+            }
+            unread.refusal.number()
         }
     }
 }
@@ -459,12 +529,12 @@ pub fn celery_worst_norm(
     ensures r_value { result ≡ number_of (norms.norm_answer (given p s n m t radices.now weights.now tables.now d.now) beta.now) }
     ensures norm_after { norm.new ≡ specs.value_of (norms.norm_answer (given p s n m t radices.now weights.now tables.now d.now) beta.now) 0 norm.old }
 {
-    let a = listing::worst_norm(p, s, n, m, t, radices, weights, tables, d, beta);
-    match a {
-        listing::Normed::Norm(x) => {
+    let lent = lent(p, s, n, m, t, radices, weights, tables, d);
+    match listing::worst_norm(&lent, beta) {
+        Ok(x) => {
             *norm = x;
             0
         }
-        listing::Normed::Refused(k) => k,
+        Err(refusal) => refusal.number(),
     }
 }

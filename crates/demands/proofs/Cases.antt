@@ -6,6 +6,7 @@ use mathlib.Core.Path.{◌≡◌, refl}
 use mathlib.Core.Bool.{Bool, true, false}
 use mathlib.Core.List.{List, [], ◌∷◌}
 use Prim.Native.Nat.{ℕ, ◌+◌, ◌*◌, ◌%◌}
+use Rattle.std.specs.Prelude.{Ok, Err}
 use Rattle.lists.specs.Places.{sum, tab, every, joined}
 use Rattle.field.specs.Primes.{is_prime, odd_prime}
 use Rattle.field.specs.Residues.{inverse, square, minus_square}
@@ -13,10 +14,10 @@ use Rattle.plan.specs.Causes.{first, gives, refuses}
 use Rattle.plan.specs.Numbers.{product, bad_radix, radices_fit, out_of_range}
 use Rattle.plan.specs.Parts.{Given, given, lengths_fit, values_fit, store_size, full_size, call_causes}
 use Rattle.plan.specs.Rows.{digit, digits, link, chain, values, weighted, row_place, row}
-use Rattle.store.specs.declared.elimination.Filed.TheVariants.{New, Implied, Refused}
+use Rattle.plan.specs.declared.refusal.Refusal.TheVariants.{Length, Unreduced, Entry, Value, Contradiction}
+use Rattle.store.specs.declared.elimination.Filed.TheVariants.{New, Implied}
 use Rattle.store.specs.Elimination.{is_zero_row, is_pivot, is_reduced, residual, lead, normal, inserted, outcome, after, row_start, cells, flat}
 use Rattle.store.specs.Calls.{answer_of, filed, coefficients}
-use Rattle.store.specs.declared.settling.Settled.TheVariants as settled
 use Rattle.store.specs.declared.settling.Settled.TheVariants.{Forced, Free}
 use Rattle.store.specs.Settled as settling
 use Rattle.store.specs.Settled.{standing, settle_answer}
@@ -50,14 +51,14 @@ from G fs = store_of G (empty_store G) fs
 
 pub record Starred : Type 0 where
   -- "X, empty: (1,1) New 1; then (2,1) New 0; then (3,0) New 2; β = 0 1 1 0."
-  pub xor-1 : answer (call X (from X []) 1 1) ≡ answer_of (New 1)
-  pub xor-2 : answer (call X (from X (ours 1 1 ∷ [])) 2 1) ≡ answer_of (New 0)
-  pub xor-3 : answer (call X (from X (ours 1 1 ∷ ours 2 1 ∷ [])) 3 0) ≡ answer_of (New 2)
+  pub xor-1 : answer (call X (from X []) 1 1) ≡ answer_of (Ok (New 1))
+  pub xor-2 : answer (call X (from X (ours 1 1 ∷ [])) 2 1) ≡ answer_of (Ok (New 0))
+  pub xor-3 : answer (call X (from X (ours 1 1 ∷ ours 2 1 ∷ [])) 3 0) ≡ answer_of (Ok (New 2))
   pub xor-β : coefficients 4 (from X (ours 1 1 ∷ ours 2 1 ∷ ours 3 0 ∷ [])) ≡ 0 ∷ 1 ∷ 1 ∷ 0 ∷ []
   -- "Then (0,0) Implied; (0,1) gives 9; (3,1) gives 9."
-  pub xor-4 : answer (call X (from X (ours 1 1 ∷ ours 2 1 ∷ ours 3 0 ∷ [])) 0 0) ≡ answer_of Implied
-  pub xor-5 : answer (call X (from X (ours 1 1 ∷ ours 2 1 ∷ ours 3 0 ∷ [])) 0 1) ≡ answer_of (Refused 9)
-  pub xor-6 : answer (call X (from X (ours 1 1 ∷ ours 2 1 ∷ ours 3 0 ∷ [])) 3 1) ≡ answer_of (Refused 9)
+  pub xor-4 : answer (call X (from X (ours 1 1 ∷ ours 2 1 ∷ ours 3 0 ∷ [])) 0 0) ≡ answer_of (Ok Implied)
+  pub xor-5 : answer (call X (from X (ours 1 1 ∷ ours 2 1 ∷ ours 3 0 ∷ [])) 0 1) ≡ answer_of (Err Contradiction)
+  pub xor-6 : answer (call X (from X (ours 1 1 ∷ ours 2 1 ∷ ours 3 0 ∷ [])) 3 1) ≡ answer_of (Err Contradiction)
   -- "X with 0,0,0,1 in entry order: β = 1 0 2 0."
   pub and-β : coefficients 4 (from X (ours 0 0 ∷ ours 1 0 ∷ ours 2 0 ∷ ours 3 1 ∷ [])) ≡ 1 ∷ 0 ∷ 2 ∷ 0 ∷ []
   -- "p=3, s=2, n=1, one link of weight 1 and table 1,0,0, t=0, values 1,0: β = 0 1, one bootstrap, 6 steps."
@@ -97,14 +98,14 @@ pub record Mixed : Type 0 where
   -- the radices the other way round are another plan
   pub month-turned : digits (given 13 3 2 0 0 (2 ∷ 12 ∷ []) [] [] []) 14 ≡ 1 ∷ 2 ∷ []
   -- empty: (1,1) New 1; then (14,1) New 0; β = 2 1
-  pub month-1 : answer (call M (from M []) 1 1) ≡ answer_of (New 1)
-  pub month-2 : answer (call M (from M (ours 1 1 ∷ [])) 14 1) ≡ answer_of (New 0)
+  pub month-1 : answer (call M (from M []) 1 1) ≡ answer_of (Ok (New 1))
+  pub month-2 : answer (call M (from M (ours 1 1 ∷ [])) 14 1) ≡ answer_of (Ok (New 0))
   pub month-β : coefficients 2 (from M (ours 1 1 ∷ ours 14 1 ∷ [])) ≡ 2 ∷ 1 ∷ []
   -- then (15,2) Implied, its value below s and not below the second radix; (15,1) gives 9, (24,0) gives 7, (15,3) gives 8
-  pub month-3 : answer (call M (from M (ours 1 1 ∷ ours 14 1 ∷ [])) 15 2) ≡ answer_of Implied
-  pub month-4 : answer (call M (from M (ours 1 1 ∷ ours 14 1 ∷ [])) 15 1) ≡ answer_of (Refused 9)
-  pub month-5 : answer (call M (from M (ours 1 1 ∷ ours 14 1 ∷ [])) 24 0) ≡ answer_of (Refused 7)
-  pub month-6 : answer (call M (from M (ours 1 1 ∷ ours 14 1 ∷ [])) 15 3) ≡ answer_of (Refused 8)
+  pub month-3 : answer (call M (from M (ours 1 1 ∷ ours 14 1 ∷ [])) 15 2) ≡ answer_of (Ok Implied)
+  pub month-4 : answer (call M (from M (ours 1 1 ∷ ours 14 1 ∷ [])) 15 1) ≡ answer_of (Err Contradiction)
+  pub month-5 : answer (call M (from M (ours 1 1 ∷ ours 14 1 ∷ [])) 24 0) ≡ answer_of (Err Entry)
+  pub month-6 : answer (call M (from M (ours 1 1 ∷ ours 14 1 ∷ [])) 15 3) ≡ answer_of (Err Value)
   -- the run takes each digit below its own radix: 7 1 passes, 12 0 and 7 2 give 12
   pub month-run : run_answer M (layout M.numbers [] [] (2 ∷ 1 ∷ [])) (7 ∷ 1 ∷ []) ≡ gives (2 ∷ 0 ∷ [])
   pub month-run-1 : run_answer M (layout M.numbers [] [] (2 ∷ 1 ∷ [])) (12 ∷ 0 ∷ []) ≡ refuses 12
@@ -132,32 +133,32 @@ mixed =
 
 pub record Settled : Type 0 where
   -- X, empty: entry 0 has a zero row, which gives 0 whatever the coefficients; the others are free with the column that filing would answer
-  pub empty-0 : settle_answer X (from X []) 0 ≡ settling.answer_of (Forced 0)
-  pub empty-1 : settle_answer X (from X []) 1 ≡ settling.answer_of (Free 1)
-  pub empty-2 : settle_answer X (from X []) 2 ≡ settling.answer_of (Free 0)
-  pub empty-3 : settle_answer X (from X []) 3 ≡ settling.answer_of (Free 0)
+  pub empty-0 : settle_answer X (from X []) 0 ≡ settling.answer_of (Ok (Forced 0))
+  pub empty-1 : settle_answer X (from X []) 1 ≡ settling.answer_of (Ok (Free 1))
+  pub empty-2 : settle_answer X (from X []) 2 ≡ settling.answer_of (Ok (Free 0))
+  pub empty-3 : settle_answer X (from X []) 3 ≡ settling.answer_of (Ok (Free 0))
   -- with (1,1) and (2,1): these are forced with their values, entry 3 is free with column 2
-  pub two-0 : settle_answer X (from X (ours 1 1 ∷ ours 2 1 ∷ [])) 0 ≡ settling.answer_of (Forced 0)
-  pub two-1 : settle_answer X (from X (ours 1 1 ∷ ours 2 1 ∷ [])) 1 ≡ settling.answer_of (Forced 1)
-  pub two-2 : settle_answer X (from X (ours 1 1 ∷ ours 2 1 ∷ [])) 2 ≡ settling.answer_of (Forced 1)
-  pub two-3 : settle_answer X (from X (ours 1 1 ∷ ours 2 1 ∷ [])) 3 ≡ settling.answer_of (Free 2)
+  pub two-0 : settle_answer X (from X (ours 1 1 ∷ ours 2 1 ∷ [])) 0 ≡ settling.answer_of (Ok (Forced 0))
+  pub two-1 : settle_answer X (from X (ours 1 1 ∷ ours 2 1 ∷ [])) 1 ≡ settling.answer_of (Ok (Forced 1))
+  pub two-2 : settle_answer X (from X (ours 1 1 ∷ ours 2 1 ∷ [])) 2 ≡ settling.answer_of (Ok (Forced 1))
+  pub two-3 : settle_answer X (from X (ours 1 1 ∷ ours 2 1 ∷ [])) 3 ≡ settling.answer_of (Ok (Free 2))
   -- after (3,0) every entry is forced with its value
-  pub three-0 : settle_answer X (from X (ours 1 1 ∷ ours 2 1 ∷ ours 3 0 ∷ [])) 0 ≡ settling.answer_of (Forced 0)
-  pub three-1 : settle_answer X (from X (ours 1 1 ∷ ours 2 1 ∷ ours 3 0 ∷ [])) 1 ≡ settling.answer_of (Forced 1)
-  pub three-2 : settle_answer X (from X (ours 1 1 ∷ ours 2 1 ∷ ours 3 0 ∷ [])) 2 ≡ settling.answer_of (Forced 1)
-  pub three-3 : settle_answer X (from X (ours 1 1 ∷ ours 2 1 ∷ ours 3 0 ∷ [])) 3 ≡ settling.answer_of (Forced 0)
+  pub three-0 : settle_answer X (from X (ours 1 1 ∷ ours 2 1 ∷ ours 3 0 ∷ [])) 0 ≡ settling.answer_of (Ok (Forced 0))
+  pub three-1 : settle_answer X (from X (ours 1 1 ∷ ours 2 1 ∷ ours 3 0 ∷ [])) 1 ≡ settling.answer_of (Ok (Forced 1))
+  pub three-2 : settle_answer X (from X (ours 1 1 ∷ ours 2 1 ∷ ours 3 0 ∷ [])) 2 ≡ settling.answer_of (Ok (Forced 1))
+  pub three-3 : settle_answer X (from X (ours 1 1 ∷ ours 2 1 ∷ ours 3 0 ∷ [])) 3 ≡ settling.answer_of (Ok (Forced 0))
   -- a forced residue may be s or more: with (1,1) under D entry 3 is forced with 3, and no value is left for it
-  pub digit-3 : settle_answer D (from D (ours 1 1 ∷ [])) 3 ≡ settling.answer_of (Forced 3)
-  pub digit-0 : answer (call D (from D (ours 1 1 ∷ [])) 3 0) ≡ answer_of (Refused 9)
-  pub digit-1 : answer (call D (from D (ours 1 1 ∷ [])) 3 1) ≡ answer_of (Refused 9)
+  pub digit-3 : settle_answer D (from D (ours 1 1 ∷ [])) 3 ≡ settling.answer_of (Ok (Forced 3))
+  pub digit-0 : answer (call D (from D (ours 1 1 ∷ [])) 3 0) ≡ answer_of (Err Contradiction)
+  pub digit-1 : answer (call D (from D (ours 1 1 ∷ [])) 3 1) ≡ answer_of (Err Contradiction)
   -- a month and a bit: with (1,1) entry 14 is free; after (14,1) all are forced, entry 15 with 2, entry 23 with 11 * 2 + 1 modulo 13
-  pub month-14 : settle_answer M (from M (ours 1 1 ∷ [])) 14 ≡ settling.answer_of (Free 0)
-  pub month-15 : settle_answer M (from M (ours 1 1 ∷ ours 14 1 ∷ [])) 15 ≡ settling.answer_of (Forced 2)
-  pub month-23 : settle_answer M (from M (ours 1 1 ∷ ours 14 1 ∷ [])) 23 ≡ settling.answer_of (Forced 10)
+  pub month-14 : settle_answer M (from M (ours 1 1 ∷ [])) 14 ≡ settling.answer_of (Ok (Free 0))
+  pub month-15 : settle_answer M (from M (ours 1 1 ∷ ours 14 1 ∷ [])) 15 ≡ settling.answer_of (Ok (Forced 2))
+  pub month-23 : settle_answer M (from M (ours 1 1 ∷ ours 14 1 ∷ [])) 23 ≡ settling.answer_of (Ok (Forced 10))
   -- 7 for an entry out of range; 6 for a store that is not in reduced form, before 7; 4 for one of another length, before 6
-  pub no-entry : settle_answer D (from D []) 5 ≡ settling.answer_of (settled.Refused 7)
-  pub damaged : settle_answer D (2 ∷ 0 ∷ []) 5 ≡ settling.answer_of (settled.Refused 6)
-  pub too_long : settle_answer D (2 ∷ 0 ∷ 0 ∷ []) 5 ≡ settling.answer_of (settled.Refused 4)
+  pub no-entry : settle_answer D (from D []) 5 ≡ settling.answer_of (Err Entry)
+  pub damaged : settle_answer D (2 ∷ 0 ∷ []) 5 ≡ settling.answer_of (Err Unreduced)
+  pub too_long : settle_answer D (2 ∷ 0 ∷ 0 ∷ []) 5 ≡ settling.answer_of (Err Length)
 
 pub settled-entries : Settled
 unfolding store_of store_after answer refusal filed call_causes store_size row_start cells product bad_radix radices_fit out_of_range odd_prime is_prime every lengths_fit values_fit is_zero_row is_pivot is_reduced residual lead normal inserted outcome after flat joined tab sum row row_place weighted values chain digit inverse standing
@@ -281,10 +282,10 @@ pub record Moved : Type 0 where
   pub source-old : to_full (1 ∷ 2 ∷ 1 ∷ 0 ∷ 0 ∷ 0 ∷ []) (0 ∷ 0 ∷ 0 ∷ 0 ∷ 0 ∷ 0 ∷ []) ≡ 4
   pub target-new : to_full (1 ∷ 2 ∷ 1 ∷ 0 ∷ 0 ∷ []) (0 ∷ 0 ∷ 0 ∷ 0 ∷ 0 ∷ []) ≡ 4
   -- an old store lent to filing is 4 by its length
-  pub old-lent : answer (call L (1 ∷ 2 ∷ 1 ∷ 0 ∷ 0 ∷ 0 ∷ []) 0 0) ≡ answer_of (Refused 4)
+  pub old-lent : answer (call L (1 ∷ 2 ∷ 1 ∷ 0 ∷ 0 ∷ 0 ∷ []) 0 0) ≡ answer_of (Err Length)
   -- the same filing over both layouts
-  pub filed-new : answer (call L (1 ∷ 2 ∷ 1 ∷ 0 ∷ 0 ∷ []) 0 1) ≡ answer_of (New 1)
-  pub filed-old : full_file_answer L (1 ∷ 2 ∷ 1 ∷ 0 ∷ 0 ∷ 0 ∷ []) 0 1 ≡ answer_of (New 1)
+  pub filed-new : answer (call L (1 ∷ 2 ∷ 1 ∷ 0 ∷ 0 ∷ []) 0 1) ≡ answer_of (Ok (New 1))
+  pub filed-old : full_file_answer L (1 ∷ 2 ∷ 1 ∷ 0 ∷ 0 ∷ 0 ∷ []) 0 1 ≡ answer_of (Ok (New 1))
   pub left-new : store_after (call L (1 ∷ 2 ∷ 1 ∷ 0 ∷ 0 ∷ []) 0 1) ≡ 1 ∷ 0 ∷ 2 ∷ 1 ∷ 1 ∷ []
   pub left-old : full_file_store L (1 ∷ 2 ∷ 1 ∷ 0 ∷ 0 ∷ 0 ∷ []) 0 1 ≡ 1 ∷ 0 ∷ 2 ∷ 0 ∷ 1 ∷ 1 ∷ []
 

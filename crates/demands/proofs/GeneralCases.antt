@@ -5,19 +5,21 @@
 --                     within the limits here
 -- Assumes nothing.
 use mathlib.Core.Path.{◌≡◌, refl}
+use mathlib.Core.Bool.{true, false}
 use mathlib.Core.List.{List, [], ◌∷◌}
 use Prim.Native.Nat.{ℕ}
 use lib.ListN.{replicate}
+use Rattle.std.specs.Prelude.{Ok, Err}
 use Rattle.lists.specs.Places.{sum, tab, every, joined}
 use Rattle.field.specs.Primes.{is_prime, odd_prime}
 use Rattle.field.specs.Residues.{inverse}
 use Rattle.plan.specs.Numbers.{plan, product, bad_radix, radices_fit, out_of_range}
 use Rattle.plan.specs.Parts.{Given, given, lengths_fit, values_fit, store_size, call_causes}
 use Rattle.plan.specs.Rows.{digit, link, chain, values, weighted, row_place, row}
+use Rattle.plan.specs.declared.refusal.Refusal.TheVariants.{Prime, Radix, Range, Length, Residue}
 use Rattle.store.specs.Elimination.{residual, lead, normal, inserted, outcome, after, row_start, cells, flat}
 use Rattle.store.specs.Calls.{filed}
 use Rattle.laws.specs.Rank.{rows_most, most_new}
-use Rattle.general.specs.declared.Suited.TheVariants.{Yes, No, Refused}
 use Rattle.general.specs.Suits.{work_after, is_general, answer_of, general_answer, general_work}
 use Rattle.demands.proofs.Cases.{X, L}
 
@@ -31,28 +33,28 @@ nines k = replicate k 9
 
 pub record Suits : Type 0 where
   -- entry 0 of X is Implied; the work store's bytes do not matter, and it is left empty
-  pub xor : general_answer X (replicate 14 0) ≡ answer_of No
-  pub xor-nines : general_answer X (nines 14) ≡ answer_of No
+  pub xor : general_answer X (replicate 14 0) ≡ answer_of (Ok false)
+  pub xor-nines : general_answer X (nines 14) ≡ answer_of (Ok false)
   pub xor-left : general_work X (nines 14) ≡ replicate 14 0
   -- rows 0 1 and 1 0; with a third entry 2 0
-  pub link-two : general_answer L (nines 5) ≡ answer_of Yes
+  pub link-two : general_answer L (nines 5) ≡ answer_of (Ok true)
   pub link_left : general_work L (nines 5) ≡ replicate 5 0
-  pub link-three : general_answer (given 3 2 1 1 0 (3 ∷ []) (1 ∷ []) (1 ∷ 0 ∷ 0 ∷ []) []) (nines 5) ≡ answer_of No
+  pub link-three : general_answer (given 3 2 1 1 0 (3 ∷ []) (1 ∷ []) (1 ∷ 0 ∷ 0 ∷ []) []) (nines 5) ≡ answer_of (Ok false)
   -- as many entries as columns, and one more
-  pub four : general_answer (E 4 1 (1 ∷ 0 ∷ [])) (nines 14) ≡ answer_of Yes
-  pub five : general_answer (E 5 1 (1 ∷ 0 ∷ [])) (nines 14) ≡ answer_of No
+  pub four : general_answer (E 4 1 (1 ∷ 0 ∷ [])) (nines 14) ≡ answer_of (Ok true)
+  pub five : general_answer (E 5 1 (1 ∷ 0 ∷ [])) (nines 14) ≡ answer_of (Ok false)
   -- 6 columns of which 5 can be independent, by d rows 1 0 and 0 1; by 1 0 twice 4 are, so that the last entry alone is not New
-  pub apart : general_answer (E 5 2 (1 ∷ 0 ∷ 0 ∷ 1 ∷ [])) (nines 27) ≡ answer_of Yes
-  pub alike : general_answer (E 5 2 (1 ∷ 0 ∷ 1 ∷ 0 ∷ [])) (nines 27) ≡ answer_of No
-  pub alike-four : general_answer (E 4 2 (1 ∷ 0 ∷ 1 ∷ 0 ∷ [])) (nines 27) ≡ answer_of Yes
+  pub apart : general_answer (E 5 2 (1 ∷ 0 ∷ 0 ∷ 1 ∷ [])) (nines 27) ≡ answer_of (Ok true)
+  pub alike : general_answer (E 5 2 (1 ∷ 0 ∷ 1 ∷ 0 ∷ [])) (nines 27) ≡ answer_of (Ok false)
+  pub alike-four : general_answer (E 4 2 (1 ∷ 0 ∷ 1 ∷ 0 ∷ [])) (nines 27) ≡ answer_of (Ok true)
   -- causes 1 to 5 in their order; a refusal leaves the work store
-  pub no-prime : general_answer (given 9 1 2 0 33 (2 ∷ 2 ∷ []) [] [] (9 ∷ [])) (nines 3) ≡ answer_of (Refused 1)
-  pub no-radix : general_answer (given 3 1 2 0 33 (2 ∷ 2 ∷ []) [] [] (9 ∷ [])) (nines 3) ≡ answer_of (Refused 2)
-  pub no-range : general_answer (given 3 2 2 0 33 (2 ∷ 2 ∷ []) [] [] (9 ∷ [])) (nines 3) ≡ answer_of (Refused 3)
-  pub work-short : general_answer (given 3 2 2 0 1 (2 ∷ 2 ∷ []) [] [] (9 ∷ 9 ∷ [])) (nines 13) ≡ answer_of (Refused 4)
-  pub work-full : general_answer X (nines 20) ≡ answer_of (Refused 4)
+  pub no-prime : general_answer (given 9 1 2 0 33 (2 ∷ 2 ∷ []) [] [] (9 ∷ [])) (nines 3) ≡ answer_of (Err Prime)
+  pub no-radix : general_answer (given 3 1 2 0 33 (2 ∷ 2 ∷ []) [] [] (9 ∷ [])) (nines 3) ≡ answer_of (Err Radix)
+  pub no-range : general_answer (given 3 2 2 0 33 (2 ∷ 2 ∷ []) [] [] (9 ∷ [])) (nines 3) ≡ answer_of (Err Range)
+  pub work-short : general_answer (given 3 2 2 0 1 (2 ∷ 2 ∷ []) [] [] (9 ∷ 9 ∷ [])) (nines 13) ≡ answer_of (Err Length)
+  pub work-full : general_answer X (nines 20) ≡ answer_of (Err Length)
   pub work-full-left : general_work X (nines 20) ≡ nines 20
-  pub no-residue : general_answer (given 3 2 2 0 1 (2 ∷ 2 ∷ []) [] [] (1 ∷ 3 ∷ [])) (nines 14) ≡ answer_of (Refused 5)
+  pub no-residue : general_answer (given 3 2 2 0 1 (2 ∷ 2 ∷ []) [] [] (1 ∷ 3 ∷ [])) (nines 14) ≡ answer_of (Err Residue)
   pub no-residue-left : general_work (given 3 2 2 0 1 (2 ∷ 2 ∷ []) [] [] (1 ∷ 3 ∷ [])) (nines 14) ≡ nines 14
 
 pub suits : Suits

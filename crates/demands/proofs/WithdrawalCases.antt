@@ -3,6 +3,7 @@ use mathlib.Core.Path.{◌≡◌, refl}
 use mathlib.Core.List.{List, [], ◌∷◌, map}
 use Prim.Native.Nat.{ℕ}
 use lib.ListN.{replicate}
+use Rattle.std.specs.Prelude.{Ok, Err}
 use Rattle.lists.specs.Places.{sum, tab, every, joined, same}
 use Rattle.field.specs.Primes.{is_prime, odd_prime}
 use Rattle.field.specs.Residues.{inverse}
@@ -10,7 +11,8 @@ use Rattle.plan.specs.Causes.{gives, refuses}
 use Rattle.plan.specs.Numbers.{product, bad_radix, radices_fit, out_of_range}
 use Rattle.plan.specs.Parts.{Given, given, lengths_fit, values_fit, store_size, call_causes}
 use Rattle.plan.specs.Rows.{digit, chain, values, weighted, row_place, row}
-use Rattle.store.specs.declared.elimination.Filed.TheVariants.{New, Implied, Refused}
+use Rattle.plan.specs.declared.refusal.Refusal.TheVariants.{Contradiction}
+use Rattle.store.specs.declared.elimination.Filed.TheVariants.{New, Implied}
 use Rattle.store.specs.Elimination.{is_zero_row, is_pivot, is_reduced, residual, lead, normal, inserted, outcome, after, row_start, cells, flat}
 use Rattle.store.specs.Calls.{answer_of, filed, coefficients}
 use Rattle.store.specs.declared.settling.Settled.TheVariants.{Forced, Free}
@@ -64,32 +66,32 @@ heavy = given 3 2 2 0 1 (2 ∷ 2 ∷ []) [] [] (1 ∷ 3 ∷ [])
 
 pub record Withdrawn : Type 0 where
   -- filing with records answers as filing does, and the entries join the list
-  pub file-1 : record_answer X (upon []) work 1 1 ≡ answer_of (New 1)
-  pub file-2 : record_answer X (upon (file 1 1 ∷ [])) work 2 1 ≡ answer_of (New 0)
-  pub file-3 : record_answer X (upon (file 1 1 ∷ file 2 1 ∷ [])) work 3 0 ≡ answer_of (New 2)
-  pub file-4 : record_answer X (upon (file 1 1 ∷ file 2 1 ∷ file 3 0 ∷ [])) work 0 0 ≡ answer_of Implied
+  pub file-1 : record_answer X (upon []) work 1 1 ≡ answer_of (Ok (New 1))
+  pub file-2 : record_answer X (upon (file 1 1 ∷ [])) work 2 1 ≡ answer_of (Ok (New 0))
+  pub file-3 : record_answer X (upon (file 1 1 ∷ file 2 1 ∷ [])) work 3 0 ≡ answer_of (Ok (New 2))
+  pub file-4 : record_answer X (upon (file 1 1 ∷ file 2 1 ∷ file 3 0 ∷ [])) work 0 0 ≡ answer_of (Ok Implied)
   pub filed-4 : upon (file 1 1 ∷ file 2 1 ∷ file 3 0 ∷ file 0 0 ∷ []) ≡ full
   -- a listed entry with its value is Implied and joins nothing; with another value it is 9
-  pub again : record_answer X full work 1 1 ≡ answer_of Implied
+  pub again : record_answer X full work 1 1 ≡ answer_of (Ok Implied)
   pub again-same : record_after X full work 1 1 ≡ full
-  pub other-value : record_answer X full work 1 0 ≡ answer_of (Refused 9)
+  pub other-value : record_answer X full work 1 0 ≡ answer_of (Err Contradiction)
   -- "It answers the value withdrawn"; "closes the gap, sets the freed last record to zeros"
   pub value : withdraw_answer X full work 1 ≡ gives (1 ∷ [])
   pub gone : withdraw_after X full work 1 ≡ less
   -- the entries kept "and not withdrawn since"
   pub kept : kept_with X (upon []) [] (ours work (file 1 1) ∷ ours work (file 2 1) ∷ ours work (withdraw 1) ∷ []) ≡ (2, 1) ∷ []
   -- then the entry takes the other value
-  pub corrected : record_answer X less work 1 0 ≡ answer_of (New 2)
+  pub corrected : record_answer X less work 1 0 ≡ answer_of (Ok (New 2))
   pub corrected-β : coefficients 4 (record_after X less work 1 0).store ≡ 2 ∷ 0 ∷ 2 ∷ 0 ∷ []
   -- settling tells whether it can: forced while it is kept, and free once it is withdrawn
-  pub settled-kept : settle_answer X full.store 1 ≡ settling.answer_of (Forced 1)
-  pub settled-gone : settle_answer X less.store 1 ≡ settling.answer_of (Free 2)
+  pub settled-kept : settle_answer X full.store 1 ≡ settling.answer_of (Ok (Forced 1))
+  pub settled-gone : settle_answer X less.store 1 ≡ settling.answer_of (Ok (Free 2))
   -- an implied entry carries the store once the entry that was new is withdrawn
   pub implied : record_after times (filled (1 ∷ 2 ∷ []) (record_of 1 2 ∷ none ∷ none ∷ none ∷ none ∷ []) 1) (replicate 2 7) 3 1 ≡ first_two
   pub carries : withdraw_after times first_two (replicate 2 7) 1 ≡ second-alone
   -- then the withdrawn entry is forced all the same, and refused with another value
-  pub still-forced : settle_answer times second-alone.store 1 ≡ settling.answer_of (Forced 2)
-  pub still-refused : record_answer times second-alone (replicate 2 7) 1 3 ≡ answer_of (Refused 9)
+  pub still-forced : settle_answer times second-alone.store 1 ≡ settling.answer_of (Ok (Forced 2))
+  pub still-refused : record_answer times second-alone (replicate 2 7) 1 3 ≡ answer_of (Err Contradiction)
   pub emptied : withdraw_after times second-alone (replicate 2 7) 3 ≡ filled (0 ∷ 0 ∷ []) (replicate 5 none) 0
   -- 17, "when the withdrawn entry isn't listed"; 7 comes before it
   pub absent : withdraw_answer X less work 1 ≡ refuses 17
@@ -106,7 +108,7 @@ pub record Withdrawn : Type 0 where
   -- a store that is not in reduced form is 6, whatever the list
   pub damaged : record_answer X (filled (replicate 14 2) less.records 3) work 4 2 ≡ refuses 6
   -- records behind the count are neither tested nor changed: the entry that joins takes the first, and the place that a withdrawal frees becomes zeros
-  pub behind-new : record_answer X two work 3 0 ≡ answer_of (New 2)
+  pub behind-new : record_answer X two work 3 0 ≡ answer_of (Ok (New 2))
   pub behind-joined : record_after X two work 3 0 ≡ three
   pub behind-gone : withdraw_after X three work 1 ≡ filled less.store (record_of 2 1 ∷ record_of 3 0 ∷ none ∷ record_of 8 8 ∷ []) 2
   -- the work store is all zeros after a call that passes cause 5: carried out, or refused with 16 or 17

@@ -6,12 +6,11 @@
 --     General G work            what is claimed of the answer to `general`, lent this work store: yes exactly when the plan suits every table, and no
 --                               exactly when it does not
 --     new_of G S fs             how many calls of a list were answered New, told from the calls and their answers
-use Rattle.std.specs.Prelude.{◌≡◌, cond, List, [], ◌∷◌, ◌↔◌, ℕ, ◌+◌, ◌<◌, length}
+use Rattle.std.specs.Prelude.{◌≡◌, true, false, cond, List, [], ◌∷◌, ◌↔◌, ℕ, ◌+◌, ◌<◌, length, Ok}
 use Rattle.field.specs.Residues.{Residues}
 use Rattle.plan.specs.Numbers.{columns, product}
 use Rattle.plan.specs.Parts.{Given}
 use Rattle.general.specs.Suits.{says_new, answer_of, general_answer}
-use Rattle.general.specs.declared.Suited.TheVariants.{Yes, No}
 use Rattle.demands.specs.Demand3.{Filing, ours, other, call, answer, store_after, Reproduces}
 
 abbrev pub IsTable : Given → (ℕ → ℕ) → Type 0
@@ -27,8 +26,8 @@ abbrev pub SuitsAll : Given → Type 0
 SuitsAll G = (f : ℕ → ℕ) → IsTable G f → HasCoefficients G f
 
 pub record General (G : Given) (work : List ℕ) : Type 0 where
-  pub yes : (general_answer G work ≡ answer_of Yes) ↔ SuitsAll G
-  pub no : (general_answer G work ≡ answer_of No) ↔ (SuitsAll G → ⊥)
+  pub yes : (general_answer G work ≡ answer_of (Ok true)) ↔ SuitsAll G
+  pub no : (general_answer G work ≡ answer_of (Ok false)) ↔ (SuitsAll G → ⊥)
 
 unfoldable pub new_of : Given → List ℕ → List Filing → ℕ
 new_of G S [] = 0

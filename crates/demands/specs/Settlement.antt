@@ -6,7 +6,7 @@
 --                                 entries give v, Free exactly when they give no one residue, and a kept entry is forced with its value
 --     SettledAfter G fs i         that, of the store and the entries kept after the filings fs
 --     SettledWith G records cs i  that, of those after the filings and withdrawals cs, with the records lent
-use Rattle.std.specs.Prelude.{◌≡◌, ◌↔◌, ℕ, ◌%◌, length}
+use Rattle.std.specs.Prelude.{◌≡◌, ◌↔◌, ℕ, ◌%◌, length, Ok}
 use mathlib.Core.List.{List, [], Memᴰ}
 use Rattle.field.specs.Residues.{Residues}
 use Rattle.plan.specs.Numbers.{columns}
@@ -24,9 +24,9 @@ AllGive G K i v =
     → ((j u : ℕ) → Memᴰ (j, u) K → Reproduces G β j u) → reproduced G i β % G.numbers.p ≡ v
 
 pub record Settlement (G : Given) (S : List ℕ) (K : List (ℕ × ℕ)) (i : ℕ) : Type 0 where
-  pub when-forced : (v : ℕ) → (settle_answer G S i ≡ answer_of (Forced v)) ↔ AllGive G K i v
-  pub when-free : ((c : ℕ) × (settle_answer G S i ≡ answer_of (Free c))) ↔ ((v : ℕ) → AllGive G K i v → ⊥)
-  pub when-kept : (v : ℕ) → Memᴰ (i, v) K → settle_answer G S i ≡ answer_of (Forced v)
+  pub when-forced : (v : ℕ) → (settle_answer G S i ≡ answer_of (Ok (Forced v))) ↔ AllGive G K i v
+  pub when-free : ((c : ℕ) × (settle_answer G S i ≡ answer_of (Ok (Free c)))) ↔ ((v : ℕ) → AllGive G K i v → ⊥)
+  pub when-kept : (v : ℕ) → Memᴰ (i, v) K → settle_answer G S i ≡ answer_of (Ok (Forced v))
 
 abbrev pub SettledAfter : Given → List Filing → ℕ → Type 0
 SettledAfter G fs i = Settlement G (store_of G (empty_store G) fs) (kept_of G (empty_store G) fs) i

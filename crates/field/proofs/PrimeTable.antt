@@ -6,7 +6,7 @@
 --     for-each-prime      a test that is computed for all p up to 251 gives its fact at every prime of the table
 -- Assumes nothing.
 use mathlib.Core.Path.{◌≡◌, refl, sym, ap, ◌∙◌}
-use mathlib.Core.Bool.{Bool, true, false, not, ◌&&◌, ◌||◌, beq, true≢false, not-eq-not, and-false}
+use mathlib.Core.Bool.{Bool, true, false, not, ◌&&◌, ◌||◌, beq, true≢false, and-false}
 use mathlib.Core.Logic.{◌↔◌}
 use mathlib.Core.List.{List, [], ◌∷◌}
 use Prim.Native.Nat.{ℕ, ◌+◌, ◌-◌, ◌%◌, ◌≤◌, ◌<◌}
@@ -14,9 +14,10 @@ use native.Mathlib.Decide.{dec_lt}
 use native.Mathlib.Nat.{lt_of_not-le}
 use native.Mathlib.Omega.{arith}
 use lib.Dec.{eqb, leb, ltb}
-use borrow.Author.Tests.{leb-true, lt-leb, le-leb, ltb-true, lt-ltb, eq-eqb, ne_eqb, eqb-false, not-true}
-use Rattle.lists.specs.Places.{every, at}
-use Rattle.lists.proofs.Tests.{both, both_true, every-at, every_of, every-next}
+use borrow.Author.Tests.{leb-true, lt-leb, le-leb, ltb-true, lt-ltb, ne_eqb, eqb-false, not-true}
+use Rattle.std.specs.List.{list_any, list_all}
+use Rattle.lists.specs.Places.{every}
+use Rattle.lists.proofs.Tests.{both, both_true, every-at, every_of}
 use Rattle.field.specs.Primes.{Prime, is_prime, odd_prime}
 
 unfoldable pub primes : List ℕ
@@ -24,27 +25,8 @@ primes =
     3 ∷ 5 ∷ 7 ∷ 11 ∷ 13 ∷ 17 ∷ 19 ∷ 23 ∷ 29 ∷ 31 ∷ 37 ∷ 41 ∷ 43 ∷ 47 ∷ 53 ∷ 59 ∷ 61 ∷ 67 ∷ 71 ∷ 73 ∷ 79 ∷ 83 ∷ 89 ∷ 97 ∷ 101 ∷ 103 ∷ 107 ∷ 109 ∷ 113 ∷ 127
     ∷ 131 ∷ 137 ∷ 139 ∷ 149 ∷ 151 ∷ 157 ∷ 163 ∷ 167 ∷ 173 ∷ 179 ∷ 181 ∷ 191 ∷ 193 ∷ 197 ∷ 199 ∷ 211 ∷ 223 ∷ 227 ∷ 229 ∷ 233 ∷ 239 ∷ 241 ∷ 251 ∷ []
 
--- none of the table's first n places is p
-unfoldable pub absent : ℕ → ℕ → Bool
-absent p n = every (λ k. not (eqb (at primes k) p)) n
-
-pub absent_none : (p : ℕ) → absent p 0 ≡ true
-unfolding absent every
-absent_none p = refl
-
-pub absent-next : (p i : ℕ) → absent p i ≡ true → (at primes i ≡ p → ⊥) → absent p (i + 1) ≡ true
-unfolding absent
-absent-next p i h d =
-    every-next (λ k. not (eqb (at primes k) p)) i ∙ both (absent p i) (not (eqb (at primes i) p)) h (ap not (ne_eqb (at primes i) p d))
-
-pub present : (p i : ℕ) → i < 53 → at primes i ≡ p → absent p 53 ≡ false
-unfolding absent
-present p i l e =
-    (not-eq-not {a = absent p 53} {b = false}).0 (λ t.
-    true≢false (sym (every-at (λ k. not (eqb (at primes k) p)) 53 t i l) ∙ ap not (eq-eqb (at primes i) p e)))
-
-small : every (λ p. beq (not (absent p 53)) (odd_prime p)) 252 ≡ true
-unfolding every is_prime odd_prime absent primes
+small : every (λ p. beq (list_any (λ q. eqb q p) primes) (odd_prime p)) 252 ≡ true
+unfolding every is_prime odd_prime primes
 small = refl
 
 beq-eq : (a b : Bool) → beq a b ≡ true → a ≡ b
@@ -54,29 +36,26 @@ beq-eq false true h = h
 beq-eq false false h = refl
 
 -- beyond 251 neither holds
-within : every (λ k. ltb (at primes k) 252) 53 ≡ true
-unfolding every primes
+within : list_all (λ q. ltb q 252) primes ≡ true
+unfolding primes
 within = refl
-
-pub prime-small : (k : ℕ) → k < 53 → at primes k < 252
-prime-small k l = ltb-true (at primes k) 252 (every-at (λ j. ltb (at primes j) 252) 53 within k l)
 
 odd_prime-above : (p : ℕ) → 251 < p → odd_prime p ≡ false
 unfolding odd_prime
 odd_prime-above p h = rw (lt-leb p 251 h, and-false (leb 3 p))
 
-absent-above : (p : ℕ) → 251 < p → absent p 53 ≡ true
-unfolding absent
-absent-above p h =
-    every_of (λ k. not (eqb (at primes k) p)) 53 (λ k l.
-    ap not (ne_eqb (at primes k) p (λ e. omega (arith, prime-small k l))))
+absent-above : (p : ℕ) (xs : List ℕ) → 251 < p → list_all (λ q. ltb q 252) xs ≡ true → list_any (λ q. eqb q p) xs ≡ false
+absent-above p [] h w = refl
+absent-above p (x ∷ xs) h w =
+    let ws = both_true (ltb x 252) (list_all (λ q. ltb q 252) xs) w in
+    rw (ne_eqb x p (λ e. omega (arith, ltb-true x 252 ws.0, e))) (absent-above p xs h ws.1)
 
-pub member_is : (p : ℕ) → not (absent p 53) ≡ odd_prime p
+pub member_is : (p : ℕ) → list_any (λ q. eqb q p) primes ≡ odd_prime p
 member_is p = elim (dec_lt p 252) [
-  | yes l ↦ beq-eq (not (absent p 53)) (odd_prime p) (every-at (λ q. beq (not (absent q 53)) (odd_prime q)) 252 small p l)
+  | yes l ↦ beq-eq (list_any (λ q. eqb q p) primes) (odd_prime p) (every-at (λ q. beq (list_any (λ x. eqb x q) primes) (odd_prime q)) 252 small p l)
   | no h ↦
       let l : 251 < p = lt_of_not-le (λ (k : p ≤ 251). h (omega arith)) in
-      ap not (absent-above p l) ∙ sym (odd_prime-above p l)
+      absent-above p primes l within ∙ sym (odd_prime-above p l)
 ]
 
 pub is_prime-means : (p : ℕ) → (is_prime p ≡ true) ↔ Prime p

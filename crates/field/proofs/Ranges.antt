@@ -1,27 +1,29 @@
--- Bytes below p, and rows to which nothing is added or that nothing raises.
+-- Bytes below p, room for products, and rows that nothing raises.
 --     below-joined       a maximum is below a bound exactly when both numbers are
+--     largest-below      the largest of a list is below a bound exactly when each number is
 --     residues-of, below_of     the test `all_below` says `Residues`, and back
 --     below_at, below_none, below_more      numbers below a bound, place by place
 --     below-append, below_both  two lists of them, one behind the other
 --     residues-tab, residues-snoc       lists of residues: by place, and with one residue more at the end
---     plus_none          0 times a row added
+--     headroom-fits      where each place has room for a product of two bytes, it has room for its own
 --     maxima-none        a row of zeros raises nothing
 -- Assumes nothing.
 use mathlib.Core.Path.{◌≡◌, refl, sym, ap, ap₂, ◌∙◌}
-use mathlib.Core.Bool.{Bool, true, false, ◌&&◌}
+use mathlib.Core.Bool.{Bool, true, false, ◌&&◌, and-true}
 use mathlib.Core.List.{List, [], ◌∷◌, ◌++◌}
 use Prim.Native.Nat.{ℕ, zero, suc, max, ◌+◌, ◌*◌, ◌≤◌, ◌<◌}
-use native.Mathlib.Nat.{add-zero, zero-mul, lt_of_lt_of_le}
+use native.Mathlib.Nat.{lt_of_lt_of_le, mul-le-mul}
 use native.Mathlib.Decide.{dec_lt}
 use native.Mathlib.Omega.{arith}
 use lib.Dec.{ltb}
 use lib.ListN.{length}
+use Rattle.std.specs.List.{fold}
 use Rattle.lists.specs.Places.{tab, every, at}
 use Rattle.lists.proofs.Tests.{refute, and_assoc, both, every-cons, every-at, every_of}
 use Rattle.lists.proofs.Tabs.{tab-length, tab-at, is-tab}
 use Rattle.lists.proofs.Parts.{at-past}
 use Rattle.field.specs.Residues.{Residues}
-use Rattle.field.specs.Rows.{plus_times, all_below, maxima}
+use Rattle.field.specs.Rows.{Headroom, all_below, maxima}
 use borrow.Author.Tests.{lt-ltb, le-ltb, ltb-true}
 
 pub below-joined : (a b r q : ℕ) → r ≡ max a b → ltb r q ≡ (ltb a q && ltb b q)
@@ -55,8 +57,21 @@ module _ (p : ℕ) (xs : List ℕ) where
   pub below_more : (q : ℕ) → p ≤ q → all_below p xs ≡ true → all_below q xs ≡ true
   below_more q h e = every_of (λ j. ltb (at xs j) q) (length xs) (λ j l. lt-ltb (at xs j) q (lt_of_lt_of_le (below_at e j l) h))
 
-below-cons : (p x : ℕ) (xs : List ℕ) → all_below p (x ∷ xs) ≡ (ltb x p && all_below p xs)
+pub below-cons : (p x : ℕ) (xs : List ℕ) → all_below p (x ∷ xs) ≡ (ltb x p && all_below p xs)
 below-cons p x xs = every-cons (λ j. ltb (at (x ∷ xs) j) p) (length xs)
+
+-- a maximum so far is below p, and so are the numbers behind it
+fold-below : (p a : ℕ) (xs : List ℕ) → ltb (fold max a xs) p ≡ (ltb a p && all_below p xs)
+unfolding every
+fold-below p a [] = sym (and-true (ltb a p))
+fold-below p a (x ∷ xs) =
+    fold-below p (max a x) xs
+    ∙ ap (λ (b : Bool). b && all_below p xs) (below-joined a x (max a x) p refl)
+    ∙ and_assoc (ltb a p) (ltb x p) (all_below p xs)
+    ∙ ap (λ (b : Bool). ltb a p && b) (sym (below-cons p x xs))
+
+pub largest-below : (p : ℕ) (xs : List ℕ) → 0 < p → ltb (fold max 0 xs) p ≡ all_below p xs
+largest-below p xs pos = fold-below p 0 xs ∙ ap (λ (b : Bool). b && all_below p xs) (lt-ltb 0 p pos)
 
 pub below-append : (p : ℕ) (xs ys : List ℕ) → all_below p (xs ++ ys) ≡ (all_below p xs && all_below p ys)
 unfolding every
@@ -82,9 +97,8 @@ residues-snoc p [] y pos hy h (suc i) = pos
 residues-snoc p (x ∷ xs) y pos hy h zero = h zero
 residues-snoc p (x ∷ xs) y pos hy h (suc i) = residues-snoc p xs y pos hy (λ k. h (suc k)) i
 
-pub plus_none : (g : ℕ) (xs ys : List ℕ) → g ≡ 0 → xs ≡ plus_times g xs ys
-plus_none g xs ys z =
-    is-tab xs (length xs) (λ j. at xs j + g * at ys j) 0 refl (λ j l. rw (z, zero-mul (at ys j)) (sym (add-zero (at xs j))))
+pub headroom-fits : (g : ℕ) (acc ys : List ℕ) → g ≤ 255 → ((j : ℕ) → at ys j ≤ 255) → Headroom 65025 acc → (j : ℕ) → at acc j + g * at ys j < 4294967296
+headroom-fits g acc ys hg hy h j = omega (arith, mul-le-mul hg (hy j), h j)
 
 pub maxima-none : (xs ys : List ℕ) → all_below 1 ys ≡ true → xs ≡ maxima xs ys
 maxima-none xs ys z =

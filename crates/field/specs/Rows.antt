@@ -8,7 +8,9 @@
 --     Headroom k xs            each place of xs has room for k more in 32 bits
 --     all_below p xs           each place of xs is below p, as a test
 --     maxima xs ys             the larger of xs and ys, place by place
-use Rattle.std.specs.Prelude.{Bool, List, ℕ, ◌+◌, ◌*◌, ◌%◌, ◌<◌, max, ltb, length}
+--     plus_nothing             0 times a number adds nothing: a law of the numbers that products are summed in
+use Rattle.std.specs.Prelude.{◌≡◌, Bool, List, ℕ, ◌+◌, ◌*◌, ◌%◌, ◌<◌, max, ltb, length}
+use Rattle.std.proofs.Common.{◌∙◌, ap, zero-mul, add-zero}
 use Rattle.lists.specs.Places.{sum, tab, every, at}
 
 abbrev pub dot : List ℕ → List ℕ → ℕ → ℕ
@@ -34,3 +36,6 @@ all_below p xs = every (λ j. ltb (at xs j) p) (length xs)
 
 abbrev pub maxima : List ℕ → List ℕ → List ℕ
 maxima xs ys = tab (length xs) (λ j. max (at xs j) (at ys j))
+
+pub plus_nothing : (x y : ℕ) → x + 0 * y ≡ x
+plus_nothing x y = ap (λ (n : ℕ). x + n) (zero-mul y) ∙ add-zero x

@@ -13,7 +13,6 @@ mod zeros;
 pub use primes::is_odd_prime;
 pub use residues::{cell, inverse, reciprocal};
 pub use rows::{
-    accumulate, accumulate_short, add_multiple, all_below, clear, copy, dot, pour, raise,
-    raise_row, reduce, set_multiple,
+    Total, accumulate, add_multiple, all_below, dot, pour, raise, raise_row, reduce, set_multiple,
 };
 pub use zeros::all_zero;

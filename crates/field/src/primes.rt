@@ -2,7 +2,7 @@
 ghost use Rattle.std.specs.Prelude.{◌≡◌};
 ghost use Rattle.field.specs.Primes.{odd_prime};
 
-const PRIMES: [u8; 53] = [
+const PRIMES: [usize; 53] = [
     3, 5, 7, 11, 13, 17, 19, 23, 29, 31, 37, 41, 43, 47, 53, 59, 61, 67, 71, 73, 79, 83, 89, 97,
     101, 103, 107, 109, 113, 127, 131, 137, 139, 149, 151, 157, 163, 167, 173, 179, 181, 191, 193,
     197, 199, 211, 223, 227, 229, 233, 239, 241, 251,
@@ -12,12 +12,5 @@ const PRIMES: [u8; 53] = [
 pub fn is_odd_prime(p: usize) -> bool
     ensures { result ≡ odd_prime p }
 {
-    let mut i: usize = 0;
-    while i < 53 {
-        if PRIMES[i] as usize == p {
-            return true;
-        }
-        i += 1;
-    }
-    false
+    PRIMES.contains(&p)
 }

@@ -1,4 +1,5 @@
-// One residue: multiply and reduce, and the inverse.
+// One residue: multiply and reduce, and the inverse. p is a byte, and `Modulus p` a clause: a type of its own would be made anew at each call, since it
+// comes out of a `Plan`, whose p is a byte.
 ghost use Rattle.std.specs.Prelude.{◌≡◌, ◌+◌, ◌*◌, ◌/◌, ◌%◌, ◌^◌, ◌<◌, ◌≤◌, max};
 ghost use Rattle.field.specs.Residues as specs;
 
@@ -36,6 +37,8 @@ pub fn wide_reciprocal(p: u8) -> u32
 }
 
 // v modulo p, by the same way as `cell` at 32 bits. m is `wide_reciprocal(p)`, made once for a row.
+// Not one function with `cell`, nor `wide_reciprocal` with `reciprocal`: over a trait of widths each division and cast would be a method of its own, for
+// four lines. The proof is one, over any base (`Reduction`).
 pub fn remainder(v: u32, p: u8, m: u32) -> u8
     requires modulus { specs.Modulus p }
     requires m_value { m ≡ 4294967296 / p }
@@ -59,7 +62,7 @@ fn odd_factor(b: u8, e: u8) -> u8
     1
 }
 
-// a to the power p - 2, modulo p, by squaring: for a prime p the inverse of a.
+// a to the power p - 2, modulo p, by squaring: for a prime p the inverse of a. A while: e is halved, which no range does.
 pub fn inverse(a: u8, p: u8) -> u8
     requires modulus { specs.Modulus p }
     requires a_lt_p { a < p }

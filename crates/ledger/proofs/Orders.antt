@@ -1,7 +1,6 @@
 -- Filing a list in order without one entry, pair by pair.
---     one-pair                     the pair at a place
 --     left_out, put_in             a pair of the entry that is left out, and any other
---     says-refused                 filing refuses exactly a contradiction
+--     kept-told                    an entry is filed exactly where it is no contradiction
 --     Refiling                     the state of the loop: the store is ready, and filing what is left gives what filing all gives
 --     refiling-start, refiling-next, refiling-end      before the first pair, after one more, and after the last
 --     none-skipped                 of a list in range nothing is left out by an entry that is not in range
@@ -11,33 +10,42 @@ use mathlib.Core.Path.{◌≡◌, refl, sym, ap, ◌∙◌}
 use mathlib.Core.Bool.{Bool, true, false, not, ◌&&◌, and-false, and-true}
 use mathlib.Core.List.{List, [], ◌∷◌}
 use mathlib.Core.Logic.{◌≢◌}
-use Prim.Native.Nat.{ℕ, ◌+◌, ◌*◌, ◌<◌}
+use Prim.Native.Nat.{ℕ, ◌<◌}
 use native.Mathlib.Decide.{ℕ_discrete}
 use native.Mathlib.Omega.{arith}
 use lib.Dec.{eqb, ltb}
 use borrow.Author.Tests.{eq-eqb, ne_eqb, ltb-true}
-use Rattle.lists.specs.Places.{at}
 use Rattle.lists.proofs.Tests.{both_true}
-use Rattle.plan.specs.Causes.{first}
+use Rattle.std.specs.Prelude.{Result, Ok, Err, is_ok}
+use Rattle.plan.specs.Causes.{first, Answer, gives, refuses}
+use Rattle.plan.specs.declared.refusal.Refusal.{Refusal}
 use Rattle.plan.specs.Numbers.{columns, product, Within}
 use Rattle.plan.specs.Parts.{Given, Lent}
 use Rattle.store.specs.Elimination.{Outcome, new, implied, contradiction}
 use Rattle.store.specs.Filings.{is_contradiction}
 use Rattle.store.specs.Stages.{Ready}
-use Rattle.store.specs.Calls.{empty_store, outcome_of, answered, filed}
+use Rattle.store.specs.Calls.{empty_store, outcome_of, answer_of, answered, filed}
+use Rattle.store.specs.declared.elimination.Filed.{Filed}
 use Rattle.store.proofs.Readiness.{empty-ready, filed-ready}
 use Rattle.ledger.specs.Lists.{Pair, without, filed_on, accepts}
-use Rattle.ledger.specs.Stages.{pairs_from, ranged, consistent, is_refused}
+use Rattle.ledger.specs.Stages.{ranged, consistent}
 use Rattle.ledger.proofs.Rests.{and-regroup}
 
-pub one-pair : (k : ℕ) (list : List ℕ) → pairs_from 1 k list ≡ (at list (2 * k), at list (2 * k + 1)) ∷ []
-unfolding pairs_from
-one-pair k list = refl
+abbrev is_kept : Answer → Bool
+is_kept (gives vs) = true
+is_kept (refuses k) = false
 
-pub says-refused : (o : Outcome) → is_refused (answered o) ≡ is_contradiction o
-says-refused (new c) = refl
-says-refused implied = refl
-says-refused contradiction = refl
+pub kept-told : (r : Result Filed Refusal) (o : Outcome) → answer_of r ≡ answered o → is_ok r ≡ not (is_contradiction o)
+kept-told r o e = of-result r ∙ ap is_kept e ∙ of-outcome o
+  where
+    of-result : (r : Result Filed Refusal) → is_ok r ≡ is_kept (answer_of r)
+    of-result (Ok f) = refl
+    of-result (Err x) = refl
+
+    of-outcome : (o : Outcome) → is_kept (answered o) ≡ not (is_contradiction o)
+    of-outcome (new c) = refl
+    of-outcome implied = refl
+    of-outcome contradiction = refl
 
 module _ (G : Given) (skip : ℕ) (S : List ℕ) (x : Pair) where
   pub left_out : x.0 ≡ skip → (filed_on G S (without (x ∷ []) skip) ≡ S) × (consistent G S (without (x ∷ []) skip) ≡ true)

@@ -1,62 +1,63 @@
--- A list of numbers as the loops read it: the pairs from a place on.
---     rest count k list         the pairs from place k on, of the first count
---     rest_all, rest-next, rest-none      all pairs; one more; none left
---     place-next, place_found, place_none       the place of an entry, as `find` goes on
+-- A list of numbers as pairs of them, and what `find` and `well_listed` tell of these.
+--     chunked                   the pairs, two numbers each
+--     first-listed              where an entry is listed the first pair of it is
 --     well                      each entry and value in range, no entry twice, and none of them marked: what `well_listed` still has to tell
 --     well-start, well-next, well-high, well-value, well-marked, well-none       as it goes on, and as it stops
 --     and-regroup               a law of `&&`
 -- Assumes nothing.
-use mathlib.Core.Path.{◌≡◌, refl, sym, ap}
-use mathlib.Core.Bool.{Bool, true, false, not, ◌&&◌, and-false}
+use mathlib.Core.Path.{◌≡◌, refl, sym, ap, ap₂, ◌∙◌}
+use mathlib.Core.Bool.{Bool, true, false, cond, not, ◌&&◌, and-false}
 use mathlib.Core.List.{List, [], ◌∷◌}
 use mathlib.Core.Logic.{◌≢◌}
-use Prim.Native.Nat.{ℕ, zero, suc, ◌+◌, ◌-◌, ◌*◌, ◌≤◌, ◌<◌}
+use Prim.Native.Nat.{ℕ, zero, suc, ◌+◌, ◌*◌, ◌≤◌, ◌<◌}
 use native.Mathlib.Decide.{ℕ_discrete}
 use native.Mathlib.Omega.{arith}
 use lib.Dec.{eqb}
-use lib.ListN.{length, set, replicate}
+use lib.ListN.{length, take, drop, set, replicate}
 use lib.Seq.{get_or-set_same, get_or-set_other}
 use borrow.Author.Tests.{eq-eqb, ne_eqb, le-ltb, lt-ltb}
+use Rattle.std.specs.Prelude.{◌==◌}
+use Rattle.std.specs.List.{position_or_len}
+use Rattle.std.specs.Simd.{first_chunks}
+use Rattle.std.proofs.lemmas.List.{get_or-take, get_or-drop, drop-drop, length-map}
+use Rattle.std.proofs.lemmas.List.Recursion.{is_position_or_len}
 use Rattle.lists.specs.Places.{at}
 use Rattle.ledger.specs.Lists.{Pair, has, distinct, place_of}
-use Rattle.ledger.specs.Stages.{pairs_from, pairs, ranged, unseen}
+use Rattle.ledger.specs.Stages.{pairs_from, pairs, as_pair, as_pairs, first_at, ranged, unseen}
+use Rattle.ledger.proofs.Places.{has-below, listed_at}
 
 pub and-regroup : (a b c : Bool) → (a && (b && c)) ≡ ((a && b) && c)
 and-regroup true b c = refl
 and-regroup false b c = refl
 
-abbrev pub rest : ℕ → ℕ → List ℕ → List Pair
-rest count k list = pairs_from (count - k) k list
-
-pub rest_all : (count : ℕ) (list : List ℕ) → pairs count list ≡ rest count 0 list
-rest_all count list =
-    let e : count ≡ count - 0 = omega arith in
-    ap (λ (j : ℕ). pairs_from j 0 list) e
-
-pub rest-next : (count k : ℕ) (list : List ℕ) → k < count → rest count k list ≡ (at list (2 * k), at list (2 * k + 1)) ∷ rest count (k + 1) list
+-- ---- two numbers each
+chunks-from : (count k n : ℕ) (list : List ℕ) → count ≤ n → as_pairs (take count (first_chunks 2 n (drop (2 * k) list))) ≡ pairs_from count k list
 unfolding pairs_from
-rest-next count k list h =
-    let e : count - k ≡ suc (count - (k + 1)) = omega arith in
-    ap (λ (j : ℕ). pairs_from j k list) e
+chunks-from zero k n list h = refl
+chunks-from (suc count) k zero list h = absurd (omega arith)
+chunks-from (suc count) k (suc n) list h =
+    let left : List ℕ = drop (2 * k) list in
+    let first : at (take 2 left) 0 ≡ at list (2 * k) =
+    get_or-take 2 left 0 0 (omega arith) ∙ get_or-drop (2 * k) list 0 0 ∙ (let e : 2 * k + 0 ≡ 2 * k = omega arith in ap (at list) e) in
+    let second : at (take 2 left) 1 ≡ at list (2 * k + 1) = get_or-take 2 left 1 0 (omega arith) ∙ get_or-drop (2 * k) list 1 0 in
+    let next : 2 * k + 2 ≡ 2 * (k + 1) = omega arith in
+    ap₂ (λ (x : Pair) (l : List Pair). x ∷ l) (ap₂ (λ (a b : ℕ). (a, b)) first second)
+    (ap (λ (l : List ℕ). as_pairs (take count (first_chunks 2 n l))) (drop-drop 2 (2 * k) list ∙ ap (λ (j : ℕ). drop j list) next)
+    ∙ chunks-from count (k + 1) n list (omega arith))
 
-pub rest-none : (count k : ℕ) (list : List ℕ) → count ≤ k → rest count k list ≡ []
-unfolding pairs_from
-rest-none count k list h =
-    let e : count - k ≡ 0 = omega arith in
-    ap (λ (j : ℕ). pairs_from j k list) e
+pub chunked : (count n : ℕ) (list : List ℕ) → count ≤ n → as_pairs (take count (first_chunks 2 n list)) ≡ pairs count list
+chunked count n list h = chunks-from count 0 n list h
 
 -- ---- the place of an entry
-pub place-next : (x : Pair) (l : List Pair) (i k : ℕ) → x.0 ≢ i → k + place_of (x ∷ l) i ≡ k + 1 + place_of l i
+place-is : (i : ℕ) (xs : List (List ℕ)) → place_of (as_pairs xs) i ≡ position_or_len (λ x. at x 0 == i) xs
 unfolding place_of
-place-next x l i k d = rw (ne_eqb x.0 i d) (omega arith)
+place-is i xs = is_position_or_len (λ (l : List (List ℕ)). place_of (as_pairs l) i) (λ x. at x 0 == i) refl after xs
+  where
+    after : (x : List ℕ) (l : List (List ℕ)) → place_of (as_pairs (x ∷ l)) i ≡ cond (at x 0 == i) 0 (1 + place_of (as_pairs l) i)
+    after x l = let e : suc (place_of (as_pairs l) i) ≡ 1 + place_of (as_pairs l) i = omega arith in ap (λ (n : ℕ). cond (at x 0 == i) 0 n) e
 
-pub place_found : (x : Pair) (l : List Pair) (i k : ℕ) → x.0 ≡ i → k ≡ k + place_of (x ∷ l) i
-unfolding place_of
-place_found x l i k e = rw (eq-eqb x.0 i e) (omega arith)
-
-pub place_none : (i k : ℕ) → k ≡ k + place_of [] i
-unfolding place_of
-place_none i k = omega arith
+pub first-listed : (i : ℕ) (xs : List (List ℕ)) → first_at xs i ≡ listed_at (as_pairs xs) i
+first-listed i xs = rw (has-below (as_pairs xs) i, place-is i xs, length-map xs as_pair) refl
 
 -- ---- entries and values in range, and no entry twice
 abbrev pub well : ℕ → ℕ → List ℕ → List Pair → Bool

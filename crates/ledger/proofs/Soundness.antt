@@ -1,29 +1,26 @@
 -- Cause 16, as the code tells it: a list in range without an entry twice is filed on an empty store, and the outcome is compared.
 --     unsound         a list that is not in range, or that has an entry twice
---     sound-is        of any other list, whether none of it is a contradiction, and the outcome is the store
+--     sound-told      of any other list, whether none of it is a contradiction, and the outcome is the store, as the code tells it
 --     sound-ranged    a sound list is in range
---     place-below     an entry is listed exactly when its place is in the list
---     not_listed, is-listed      as the code tells it: its place is the count, or is not
---     read_length     how many pairs there are
 --     value-at        the value of a listed entry stands at its place
+--     value-pair      it is the second number of the pair there
 -- Assumes nothing.
 use mathlib.Core.Path.{◌≡◌, refl, sym, ap, ◌∙◌}
 use mathlib.Core.Bool.{Bool, true, false, ◌&&◌, true≢false, false≢true}
 use mathlib.Core.List.{List, [], ◌∷◌}
-use mathlib.Core.Logic.{◌≢◌}
-use Prim.Native.Nat.{ℕ, zero, suc, ◌+◌, ◌*◌, ◌<◌}
+use Prim.Native.Nat.{ℕ, zero, suc, ◌+◌, ◌*◌}
 use native.Mathlib.Decide.{ℕ_discrete}
 use native.Mathlib.Omega.{arith}
-use lib.ListN.{length}
+use lib.ListN.{get_or}
 use borrow.Author.Tests.{eq-eqb, ne_eqb}
 use Rattle.lists.specs.Places.{at, same}
 use Rattle.lists.proofs.Tests.{both_true}
 use Rattle.plan.specs.Numbers.{product}
 use Rattle.plan.specs.Parts.{Given}
 use Rattle.store.specs.Calls.{empty_store}
-use Rattle.ledger.specs.Lists.{Pair, has, distinct, place_of, value_of, filed_on, accepts, sound}
-use Rattle.ledger.specs.Stages.{pairs_from, pairs, ranged, consistent}
-use Rattle.ledger.proofs.Orders.{accepts-exactly}
+use Rattle.ledger.specs.Lists.{Pair, has, distinct, place_of, value_of, without, filed_on, accepts, sound}
+use Rattle.ledger.specs.Stages.{pairs_from, pairs, as_pairs, ranged, consistent}
+use Rattle.ledger.proofs.Orders.{none-skipped, accepts-exactly}
 
 module _ (G : Given) (S : List ℕ) (l : List Pair) where
   abbrev E : List ℕ
@@ -41,7 +38,7 @@ module _ (G : Given) (S : List ℕ) (l : List Pair) where
       by r false c m h = refl
       by false true c m h = refl
 
-  pub sound-is : (in_range && distinct l) ≡ true → sound G S l ≡ (consistent G E l && same S (filed_on G E l))
+  sound-is : (in_range && distinct l) ≡ true → sound G S l ≡ (consistent G E l && same S (filed_on G E l))
   unfolding sound
   sound-is h = rw (accepts-exactly G E l) (by in_range (distinct l) (consistent G E l) (same S (filed_on G E l)) h)
     where
@@ -50,6 +47,13 @@ module _ (G : Given) (S : List ℕ) (l : List Pair) where
       by true false c m h = absurd (false≢true h)
       by false d c m h = absurd (false≢true h)
 
+  -- as the code tells it, where n is the number of entries, which no entry is
+  pub sound-told : (n : ℕ) (fits : Bool) (T : List ℕ) → n ≡ product G.radices → (in_range && distinct l) ≡ true
+      → fits ≡ consistent G E (without l n) → T ≡ filed_on G E (without l n) → sound G S l ≡ (fits && same S T)
+  sound-told n fits T e h told filed =
+      let whole : without l n ≡ l = ap (without l) e ∙ none-skipped (product G.radices) G.numbers.s l (both_true in_range (distinct l) h).0 in
+      rw (told, filed, whole) (sound-is h)
+
   pub sound-ranged : sound G S l ≡ true → in_range ≡ true
   unfolding sound
   sound-ranged h =
@@ -57,35 +61,7 @@ module _ (G : Given) (S : List ℕ) (l : List Pair) where
       let b = both_true (accepts G E l) (same S (filed_on G E l)) a.1 in
       (both_true in_range (consistent G E l) (sym (accepts-exactly G E l) ∙ b.0)).0
 
--- the place and the value of an entry
-pub place-below : (l : List Pair) (i : ℕ) → (has l i ≡ true → place_of l i < length l) × (has l i ≡ false → place_of l i ≡ length l)
-unfolding has place_of
-place-below [] i = ((λ h. absurd (false≢true h)), (λ _. refl))
-place-below (x ∷ l) i = elim (ℕ_discrete x.0 i) [
-  | yes e ↦ rw (eq-eqb x.0 i e) ((λ _. omega arith), (λ h. absurd (true≢false h)))
-  | no d ↦ rw (ne_eqb x.0 i d) ((λ h. omega (arith, (place-below l i).0 h)), (λ h. ap suc ((place-below l i).1 h)))
-]
-
--- as the code tells it
-pub not_listed : (l : List Pair) (i count : ℕ) → length l ≡ count → place_of l i ≡ count → has l i ≡ false
-not_listed l i count all e = by (has l i) (place-below l i).0
-  where
-    by : (b : Bool) → (b ≡ true → place_of l i < length l) → b ≡ false
-    by true h = absurd (omega (arith, h refl, all, e))
-    by false h = refl
-
-pub is-listed : (l : List Pair) (i count : ℕ) → length l ≡ count → place_of l i ≢ count → has l i ≡ true
-is-listed l i count all d = by (has l i) (place-below l i).1
-  where
-    by : (b : Bool) → (b ≡ false → place_of l i ≡ length l) → b ≡ true
-    by true h = refl
-    by false h = absurd (d (h refl ∙ all))
-
-pub read_length : (k i : ℕ) (list : List ℕ) → length (pairs_from k i list) ≡ k
-unfolding pairs_from
-read_length zero i list = refl
-read_length (suc k) i list = ap suc (read_length k (i + 1) list)
-
+-- the value of an entry
 value-from : (k j : ℕ) (list : List ℕ) (i : ℕ) → has (pairs_from k j list) i ≡ true
     → at list (2 * (j + place_of (pairs_from k j list) i) + 1) ≡ value_of (pairs_from k j list) i
 unfolding pairs_from has place_of value_of
@@ -102,3 +78,11 @@ pub value-at : (count : ℕ) (list : List ℕ) (i : ℕ) → has (pairs count li
 value-at count list i h =
     let e : 2 * place_of (pairs count list) i + 1 ≡ 2 * (0 + place_of (pairs count list) i) + 1 = omega arith in
     ap (at list) e ∙ value-from count 0 list i h
+
+pub value-pair : (xs : List (List ℕ)) (i : ℕ) → has (as_pairs xs) i ≡ true → at (get_or xs (place_of (as_pairs xs) i) []) 1 ≡ value_of (as_pairs xs) i
+unfolding has place_of value_of
+value-pair [] i h = absurd (false≢true h)
+value-pair (x ∷ xs) i h = elim (ℕ_discrete (at x 0) i) [
+  | yes e ↦ rw (eq-eqb (at x 0) i e) refl
+  | no d ↦ rw (ne_eqb (at x 0) i d) (value-pair xs i (rw (ne_eqb (at x 0) i d) at h))
+]

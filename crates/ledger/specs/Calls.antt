@@ -4,7 +4,8 @@
 --     pair_of r                  a record's entry and value
 --     listed F                   the first count records, as pairs
 --     list_cause, absent_cause   16, and 17, "when the withdrawn entry isn't listed"
---     record_own, withdraw_own   each call's own causes, of the listed pairs l: 6 16 7 8 9, and 6 16 7 17
+--     listed_own                 the causes that both calls test first, of the listed pairs l: 6 16 7
+--     record_own, withdraw_own   each call's own causes: 6 16 7 8 9, and 6 16 7 17
 --     lent_own, own_of           its own parts: the store, the work store, so many records and the count; those of F
 --     record_causes              filing with records: 1 2 3 4 5 6 16 7 8 9
 --     withdraw_causes            withdrawing: 1 2 3 4 5 6 16 7 17
@@ -44,6 +45,9 @@ list_cause G store l = (16, not (sound G store l))
 
 abbrev pub absent_cause : List Pair → ℕ → ℕ × Bool
 absent_cause l i = (17, not (has l i))
+
+abbrev pub listed_own : List ℕ → List Pair → ℕ → Given → List (ℕ × Bool)
+listed_own store l i G = store_cause G.numbers store ∷ list_cause G store l ∷ entry_cause G i ∷ []
 
 abbrev pub record_own : List ℕ → List Pair → ℕ → ℕ → Given → List (ℕ × Bool)
 record_own store l i v G =

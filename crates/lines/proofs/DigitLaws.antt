@@ -1,10 +1,10 @@
 -- The digits of a word, one by one, and the number that they write.
---     not-digit-low, not-digit-high, is_digit-true      a byte against the digits
---     digits_step, digits-refuted, digits-end      the digits from a place on
+--     is_digit-true, digit-range                   a byte against the digits
+--     digits-all, digits-next                      the digits of a word, and those from a place on
 --     number_step, number-end                      the number that the digits from a place on write after some that write v
 --     small-step, small                            a number of few digits is small
---     empty-word, long-word, other_word, zero_word     a word that is no numeral
---     one-digit, first-digit                       a word that is one
+--     empty-word                                   a word that is no numeral
+--     one-digit, first-digit, numeral-parts        a word that is one
 -- Assumes nothing.
 use mathlib.Core.Path.{◌≡◌, refl, sym, ◌∙◌}
 use mathlib.Core.Bool.{Bool, true, false, not, ◌&&◌, ◌||◌}
@@ -17,15 +17,12 @@ use lib.Dec.{eqb, leb}
 use lib.ListN.{length, drop, drop_of_length-le}
 use lib.Seq.{drop-cons}
 use borrow.Author.Tests.{le-leb, lt-leb, leb-true, eq-eqb, ne_eqb}
+use Rattle.std.specs.Char.{is_ascii_digit}
+use Rattle.std.specs.List.{list_all}
+use Rattle.std.proofs.lemmas.List.Recursion.{same_from_clauses}
 use Rattle.lists.specs.Places.{at}
 use Rattle.lists.proofs.Tests.{both_true}
 use Rattle.lines.specs.Lines.{is_digit, all_digits, number_from, is_numeral}
-
-pub not-digit-low : (x : ℕ) → x < 48 → is_digit x ≡ false
-not-digit-low x h = rw (lt-leb 48 x h)
-
-pub not-digit-high : (x : ℕ) → 57 < x → is_digit x ≡ false
-not-digit-high x h = rw (le-leb 48 x (omega arith), lt-leb x 57 h)
 
 pub is_digit-true : (x : ℕ) → 48 ≤ x → x ≤ 57 → is_digit x ≡ true
 is_digit-true x low high = rw (le-leb 48 x low, le-leb x 57 high)
@@ -33,20 +30,14 @@ is_digit-true x low high = rw (le-leb 48 x low, le-leb x 57 high)
 pub digit-range : (x : ℕ) → is_digit x ≡ true → (48 ≤ x) × (x ≤ 57)
 digit-range x h = let r = both_true (leb 48 x) (leb x 57) h in (leb-true 48 x r.0, leb-true x 57 r.1)
 
-pub digits-end : (word : List ℕ) (i : ℕ) → length word ≤ i → all_digits (drop i word) ≡ true
+-- `all_digits` is std's test of every byte
+pub digits-all : (word : List ℕ) → list_all is_ascii_digit word ≡ all_digits word
 unfolding all_digits
-digits-end word i h = rw (drop_of_length-le word h)
+digits-all = same_from_clauses (list_all is_ascii_digit) all_digits (λ (x : ℕ) (b : Bool). is_digit x && b) refl (λ _ _. refl) (λ _ _. refl)
 
 digits-cons : (word : List ℕ) (i : ℕ) → i < length word → all_digits (drop i word) ≡ (is_digit (at word i) && all_digits (drop (i + 1) word))
 unfolding all_digits
 digits-cons word i h = rw (add-one, drop-cons word i 0 h)
-
--- past a digit, all are digits exactly when all behind it are
-pub digits_step : (word : List ℕ) (i : ℕ) → i < length word → 48 ≤ at word i → at word i ≤ 57 → all_digits (drop i word) ≡ all_digits (drop (i + 1) word)
-digits_step word i h low high = digits-cons word i h ∙ rw (is_digit-true (at word i) low high)
-
-pub digits-refuted : (word : List ℕ) (i : ℕ) → i < length word → is_digit (at word i) ≡ false → all_digits (drop i word) ≡ false
-digits-refuted word i h e = digits-cons word i h ∙ rw e
 
 pub digits-next : (word : List ℕ) (i : ℕ) → i < length word → all_digits (drop i word) ≡ true → ((48 ≤ at word i) × (at word i ≤ 57)) × (all_digits (drop (i + 1) word) ≡ true)
 digits-next word i h e =
@@ -68,32 +59,18 @@ small-step v d i h l = rw (add-one, pow-suc) (omega arith)
 pub small : (v i : ℕ) → v < 10 ^ i → i ≤ 9 → v < 1000000000
 small v i h l = lt_of_lt_of_le h (pow-le-pow_right (omega arith) l)
 
-no-digits : (a b c : Bool) → b ≡ false → (a && (b && c)) ≡ false
-no-digits true b c e = rw e
-no-digits false b c e = refl
-
-no_front : (a b c : Bool) → c ≡ false → (a && (b && c)) ≡ false
-no_front true true c e = e
-no_front true false c e = refl
-no_front false b c e = refl
-
 -- a word against what the code tests of it
 module _ (most : ℕ) (word : List ℕ) where
   pub empty-word : length word < 1 → is_numeral most word ≡ false
   unfolding is_numeral
   empty-word h = rw (lt-leb 1 (length word) h)
 
-  pub long-word : 1 ≤ length word → most < length word → is_numeral most word ≡ false
+  pub numeral-parts : is_numeral most word ≡ true → (length word ≤ most) × (all_digits word ≡ true)
   unfolding is_numeral
-  long-word l h = rw (le-leb 1 (length word) l, lt-leb (length word) most h)
-
-  pub other_word : all_digits word ≡ false → is_numeral most word ≡ false
-  unfolding is_numeral
-  other_word h = no-digits (leb 1 (length word) && leb (length word) most) (all_digits word) (eqb (length word) 1 || not (eqb (at word 0) 48)) h
-
-  pub zero_word : (length word ≡ 1 → ⊥) → at word 0 ≡ 48 → is_numeral most word ≡ false
-  unfolding is_numeral
-  zero_word h e = no_front (leb 1 (length word) && leb (length word) most) (all_digits word) (eqb (length word) 1 || not (eqb (at word 0) 48)) (rw (ne_eqb (length word) 1 h, eq-eqb (at word 0) 48 e))
+  numeral-parts h =
+      let a = both_true (leb 1 (length word) && leb (length word) most) (all_digits word && (eqb (length word) 1 || not (eqb (at word 0) 48))) h in
+      let b = both_true (leb 1 (length word)) (leb (length word) most) a.0 in
+      (leb-true (length word) most b.1, (both_true (all_digits word) (eqb (length word) 1 || not (eqb (at word 0) 48)) a.1).0)
 
   module _ (low : 1 ≤ length word) (high : length word ≤ most) (digits : all_digits word ≡ true) where
     pub one-digit : length word ≡ 1 → is_numeral most word ≡ true

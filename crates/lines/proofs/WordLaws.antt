@@ -1,21 +1,24 @@
 -- The pieces of a byte string that is cut at every c, from a place on.
---     piece-past, piece_cut, piece_byte     the piece at the string's end, at a byte c, and at any other byte
---     piece-fits, piece_inside, piece-part      a piece ends within the string, and is the part from its start to its end
+--     piece-past            the piece at the string's end
+--     piece-fits, piece-part      a piece ends within the string, and is the part from its start to its end
 --     pieces_step, pieces-past, pieces-all  the pieces from a place on: the piece there and those behind it; none past the end; all from 0
---     ends-step, ends-cut, ends-past        where a search for the end of a piece stands
+--     front-size, front-found, piece-rest, piece-none      how long the first piece is, as a search for a c finds it
 -- Assumes nothing.
 use mathlib.Core.Path.{◌≡◌, refl, sym, ap, ◌∙◌}
 use mathlib.Core.Bool.{Bool, true, false, cond}
 use mathlib.Core.List.{List, [], ◌∷◌}
+use mathlib.Core.Logic.{◌⊎◌, inl, inr}
 use Prim.Native.Nat.{ℕ, suc, ◌+◌, ◌-◌, ◌≤◌, ◌<◌}
 use native.Mathlib.Nat.{add-sub_cancel_left}
-use native.Mathlib.Numerals.{add-one}
 use native.Mathlib.Omega.{arith}
-use lib.Dec.{eqb, leb, leb-suc-suc}
+use lib.Dec.{eqb, leb, ltb, leb-suc-suc}
 use lib.ListN.{length, take, drop, length-drop, drop_of_length-le}
-use lib.Seq.{drop-cons, drop-drop}
-use borrow.Author.Tests.{le-leb, lt-leb, leb-true, leb-false, eq-eqb, ne_eqb}
-use Rattle.lists.specs.Places.{at}
+use lib.Seq.{drop-drop, take_all}
+use borrow.Author.Tests.{le-leb, lt-leb, leb-true, leb-false, ltb-false}
+use Rattle.std.specs.Prelude.{Some, None}
+use Rattle.std.specs.Option.{unwrap_or}
+use Rattle.std.specs.List.{position_or_len}
+use Rattle.std.proofs.lemmas.List.Recursion.{is_position_or_len}
 use Rattle.lines.specs.Lines.{onto, cut_at}
 use Rattle.lines.specs.Words.{front, piece, pieces_from}
 
@@ -24,20 +27,8 @@ module _ (c : ℕ) where
   unfolding piece cut_at
   piece-past bytes i h = rw (drop_of_length-le bytes h)
 
-  pub piece_cut : (bytes : List ℕ) (i : ℕ) → i < length bytes → at bytes i ≡ c → piece c bytes i ≡ []
-  unfolding piece cut_at
-  piece_cut bytes i h e = rw (drop-cons bytes i 0 h, eq-eqb (at bytes i) c e)
-
-  front-onto : (x : ℕ) (pieces : List (List ℕ)) → front (onto x pieces) ≡ x ∷ front pieces
-  front-onto x [] = refl
-  front-onto x (one ∷ pieces) = refl
-
-  pub piece_byte : (bytes : List ℕ) (i : ℕ) → i < length bytes → (at bytes i ≡ c → ⊥) → piece c bytes i ≡ at bytes i ∷ piece c bytes (i + 1)
-  unfolding piece cut_at
-  piece_byte bytes i h e = rw (add-one, drop-cons bytes i 0 h, ne_eqb (at bytes i) c e) (front-onto (at bytes i) (cut_at c (drop (suc i) bytes)))
-
   -- a list that is cut: its first piece is within it, is its beginning, and the other pieces are those behind it
-  cut_fits : (xs : List ℕ) → length (front (cut_at c xs)) ≤ length xs
+  pub cut_fits : (xs : List ℕ) → length (front (cut_at c xs)) ≤ length xs
   unfolding cut_at
   cut_fits [] = omega arith
   cut_fits (x ∷ xs) = by (eqb x c) (cut_at c xs) (cut_fits xs)
@@ -78,14 +69,6 @@ module _ (c : ℕ) where
   unfolding piece
   piece-fits bytes i h = omega (arith, cut_fits (drop i bytes), length-drop i bytes)
 
-  -- a piece that is not empty begins within the string
-  pub piece_inside : (bytes : List ℕ) (i e : ℕ) → e ≡ i + length (piece c bytes i) → 1 ≤ e - i → e ≤ length bytes
-  piece_inside bytes i e h l = by (leb i (length bytes)) refl
-    where
-      by : (b : Bool) → leb i (length bytes) ≡ b → e ≤ length bytes
-      by true w = omega (arith, piece-fits bytes i (leb-true i (length bytes) w))
-      by false w = absurd (omega (arith, ap length (piece-past bytes i (omega (arith, leb-false i (length bytes) w)))))
-
   -- as the code cuts it, from i to the piece's end
   pub piece-part : (bytes : List ℕ) (i e : ℕ) → e ≡ i + length (piece c bytes i) → take (e - i) (drop i bytes) ≡ piece c bytes i
   unfolding piece
@@ -115,12 +98,39 @@ module _ (c : ℕ) where
           both' true e = rw (e, le-leb (i + k + 1) (length bytes) (omega (arith, leb-true (suc k) (length bytes - i) e))) (ap (λ (n : ℕ). cut_at c (drop n bytes)) same)
           both' false e = rw (e, lt-leb (i + k + 1) (length bytes) (omega (arith, leb-false (suc k) (length bytes - i) e)))
 
-  -- where a search for the end of a piece stands
-  pub ends-step : (bytes : List ℕ) (a e : ℕ) → a ≡ e + length (piece c bytes e) → e < length bytes → (at bytes e ≡ c → ⊥) → a ≡ e + 1 + length (piece c bytes (e + 1))
-  ends-step bytes a e h l ne = omega (arith, h, ap length (piece_byte bytes e l ne))
+  -- the size of the first piece is the place of the first c
+  pub front-size : (xs : List ℕ) → length (front (cut_at c xs)) ≡ position_or_len (λ (x : ℕ). eqb x c) xs
+  unfolding cut_at
+  front-size = is_position_or_len (λ (xs : List ℕ). length (front (cut_at c xs))) (λ (x : ℕ). eqb x c) empty step
+    where
+      empty : length (front (cut_at c [])) ≡ 0
+      empty = refl
 
-  pub ends-cut : (bytes : List ℕ) (a e : ℕ) → a ≡ e + length (piece c bytes e) → e < length bytes → at bytes e ≡ c → e ≡ a
-  ends-cut bytes a e h l eq = omega (arith, h, ap length (piece_cut bytes e l eq))
+      step : (x : ℕ) (xs : List ℕ) → length (front (cut_at c (x ∷ xs))) ≡ cond (eqb x c) 0 (1 + length (front (cut_at c xs)))
+      step x xs = by (eqb x c) (cut_at c xs)
+        where
+          by : (b : Bool) (pieces : List (List ℕ)) → length (front (cond b ([] ∷ pieces) (onto x pieces))) ≡ cond b 0 (1 + length (front pieces))
+          by true pieces = refl
+          by false [] = refl
+          by false (one ∷ pieces) = omega arith
 
-  pub ends-past : (bytes : List ℕ) (a e : ℕ) → a ≡ e + length (piece c bytes e) → length bytes ≤ e → e ≡ a
-  ends-past bytes a e h l = omega (arith, h, ap length (piece-past bytes e l))
+  -- as a search for the first c answers it
+  pub front-found : (xs : List ℕ) → unwrap_or (cond (ltb (position_or_len (λ (x : ℕ). eqb x c) xs) (length xs)) (Some (position_or_len (λ (x : ℕ). eqb x c) xs)) None) (length xs) ≡ length (front (cut_at c xs))
+  front-found xs = rw (sym (front-size xs)) (by (ltb size (length xs)) refl)
+    where
+      size : ℕ
+      size = length (front (cut_at c xs))
+
+      by : (b : Bool) → ltb size (length xs) ≡ b → unwrap_or (cond b (Some size) None) (length xs) ≡ size
+      by true e = refl
+      by false e = omega (arith, ltb-false size (length xs) e, cut_fits xs)
+
+  -- the bytes from place i on hold the piece there
+  pub piece-rest : (bytes rest : List ℕ) (i : ℕ) → rest ≡ take (length bytes - i) (drop i bytes) → length (front (cut_at c rest)) ≡ length (piece c bytes i)
+  unfolding piece
+  piece-rest bytes rest i e = rw (e, take_all (length bytes - i) (drop i bytes) (omega (arith, length-drop i bytes)))
+
+  -- there are none
+  pub piece-none : (bytes : List ℕ) (i : ℕ) → (length bytes < i ⊎ length bytes < length bytes) → i ≡ i + length (piece c bytes i)
+  piece-none bytes i (inl l) = rw (piece-past bytes i (omega arith)) (omega arith)
+  piece-none bytes i (inr l) = absurd (omega arith)

@@ -1,19 +1,15 @@
 -- Serves 01, "The filing program": "a cursor over the lent line reads them one by one". The words of a line from a place on, the number that
--- stands there, and how a line is read. The contracts of the code cite them; what a line is does not need them.
+-- stands there, and where a cursor stands once it has read it. The contracts of the code cite them; what a line is does not need them.
 --     piece c bytes i      the piece that begins at place i: the bytes up to the next c, or to the end (`front`, the first piece)
 --     pieces_from c bytes i    the pieces from place i on; none where i is past the end
 --     word bytes i, words_from bytes i     the same, cut at spaces
---     numeral_at most bytes i  what reading a number at place i answers: its value and where the next word begins, or `Malformed` (`read`)
---     next_place numeral i     where the next word begins after a numeral at place i; the same place where it is malformed
---     advanced cursor numeral      the cursor at that place, over the same line
---     kept numeral i out       the list with the number at place i; as it was where it is malformed
---     filled numeral i n       how many of n places are filled then, i before it; n + 1 where it is malformed
---     complete size at i n     a line of `size` bytes is not too long, was read past its end, and gave n numbers, as a test
-use Rattle.std.specs.Prelude.{Bool, true, false, cond, ◌&&◌, List, [], ◌∷◌, ℕ, ◌+◌, eqb, leb, ltb, length, drop, set}
+--     numeral_at most bytes i  the number that stands at place i, with the place where the next word begins; none where the word is malformed
+--     value_at most bytes i    its value alone
+--     advanced most cursor     the cursor at that place, over the same line; the same cursor where the word is malformed
+use Rattle.std.specs.Prelude.{cond, Option, None, Some, option_map, List, [], ◌∷◌, ℕ, ◌+◌, leb, length, drop}
 use Rattle.lines.specs.Lines.{cut_at, is_numeral, number}
 use Rattle.lines.specs.declared.cursor.Cursor.{Cursor}
 use Rattle.lines.specs.declared.numerals.Numeral.{Numeral}
-use Rattle.lines.specs.declared.numerals.Numeral.TheVariants.{Number, Malformed}
 
 abbrev pub front : List (List ℕ) → List ℕ
 front [] = []
@@ -31,27 +27,16 @@ word = piece 32
 abbrev pub words_from : List ℕ → ℕ → List (List ℕ)
 words_from = pieces_from 32
 
-abbrev pub read : Bool → ℕ → ℕ → Numeral
-read true v next = Number v next
-read false v next = Malformed
+unfoldable pub numeral_at : ℕ → List ℕ → ℕ → Option Numeral
+numeral_at most bytes i =
+    cond (is_numeral most (word bytes i)) (Some (record { value = number (word bytes i); next = i + length (word bytes i) + 1 })) None
 
-unfoldable pub numeral_at : ℕ → List ℕ → ℕ → Numeral
-numeral_at most bytes i = read (is_numeral most (word bytes i)) (number (word bytes i)) (i + length (word bytes i) + 1)
+abbrev pub value_at : ℕ → List ℕ → ℕ → Option ℕ
+value_at most bytes i = option_map (λ (n : Numeral). n.value) (numeral_at most bytes i)
 
-abbrev pub next_place : Numeral → ℕ → ℕ
-next_place (Number v next) at = next
-next_place Malformed at = at
+abbrev pub next_place : Option Numeral → ℕ → ℕ
+next_place None at = at
+next_place (Some numeral) at = numeral.next
 
-abbrev pub advanced : Cursor → Numeral → Cursor
-advanced cursor numeral = record { line = cursor.line; at = next_place numeral cursor.at }
-
-abbrev pub kept : Numeral → ℕ → List ℕ → List ℕ
-kept (Number v next) i out = set out i v
-kept Malformed i out = out
-
-abbrev pub filled : Numeral → ℕ → ℕ → ℕ
-filled (Number v next) i n = i + 1
-filled Malformed i n = n + 1
-
-abbrev pub complete : ℕ → ℕ → ℕ → ℕ → Bool
-complete size at i n = ltb size 1024 && (ltb size at && eqb i n)
+abbrev pub advanced : ℕ → Cursor → Cursor
+advanced most cursor = record { line = cursor.line; at = next_place (numeral_at most cursor.line.now cursor.at) cursor.at }

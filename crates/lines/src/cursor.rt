@@ -1,8 +1,8 @@
-// A cursor over a line: it borrows the line's bytes, and holds the place of the next word. `number_at` and `next_place` do the work.
+// A cursor over a line: it borrows the line's bytes, and holds the place of the next word.
 ghost use Rattle.std.specs.Prelude.{◌≡◌, ◌≤◌};
 ghost use Rattle.lines.specs.Words as specs;
 
-use crate::numerals::{Numeral, number_at};
+use crate::numerals::number_at;
 
 #[derive(Clone, Copy)]
 pub struct Cursor<'a> {
@@ -10,30 +10,22 @@ pub struct Cursor<'a> {
     pub at: usize,
 }
 
-// A cursor at a place of a line.
-pub fn begin<'a>(line: &'a [u8], at: usize) -> Cursor<'a>
-    ensures { (result.line ≡ line.entry) × (result.at ≡ at) }
-{
-    Cursor { line, at }
-}
-
-// Where the next word begins after a numeral. At a malformed word the place stays.
-fn next_place(numeral: Numeral, at: usize) -> usize
-    ensures { result ≡ specs.next_place numeral at }
-{
-    match numeral {
-        Numeral::Number(_, next) => next,
-        Numeral::Malformed => at,
+impl<'a> Cursor<'a> {
+    // A cursor at the start of a line.
+    pub fn new(line: &'a [u8]) -> Cursor<'a>
+        ensures { (result.line ≡ line.entry) × (result.at ≡ 0) }
+    {
+        Cursor { line, at: 0 }
     }
-}
 
-// Reads the number at the cursor, which moves on to the next word.
-pub fn next<'s, 'a>(cursor: &'s mut Cursor<'a>, most: usize) -> Numeral
-    requires { most ≤ 9 }
-    ensures { (result ≡ specs.numeral_at most cursor.old.line.now cursor.old.at) × (cursor.new ≡ specs.advanced cursor.old result) }
-{
-    let at = cursor.at;
-    let numeral = number_at(cursor.line, at, most);
-    cursor.at = next_place(numeral, at);
-    numeral
+    // Reads the number at the cursor, which moves on to the next word. At a malformed word it stays.
+    pub fn number(&mut self, most: usize) -> Option<usize>
+        requires { most ≤ 9 }
+        ensures value { result ≡ specs.value_at most self.old.line.now self.old.at }
+        ensures place { self.new ≡ specs.advanced most self.old }
+    {
+        let numeral = number_at(self.line, self.at, most)?;
+        self.at = numeral.next;
+        Some(numeral.value)
+    }
 }

@@ -8,4 +8,4 @@ mod numerals;
 mod reading;
 
 pub use numerals::piece_end;
-pub use reading::{read_line, same};
+pub use reading::read_line;

@@ -3,49 +3,43 @@ ghost use Rattle.std.specs.Prelude.{◌≡◌, true, ◌+◌, ◌≤◌, length}
 ghost use Rattle.lines.specs.Lines as lines;
 ghost use Rattle.lines.specs.Words as specs;
 
-// What stands at a place: a number, with the place where the next word begins, or none.
+// A number that stands in a line, and the place where the next word begins.
 #[derive(Clone, Copy)]
-pub enum Numeral {
-    Number(usize, usize),
-    Malformed,
+pub struct Numeral {
+    pub value: usize,
+    pub next: usize,
 }
 
-fn wide(b: u8) -> usize
-    ensures { result ≡ b }
+// How many bytes stand before the first byte c.
+fn size_before(bytes: &[u8], c: u8) -> usize
+    ensures { result ≡ length (specs.front (lines.cut_at c bytes.now)) }
 {
-    b as usize
+    bytes.iter().position(|b| *b == c).unwrap_or(bytes.len())
 }
 
 // Where the piece that begins at `at` ends: at the next byte c, or where the bytes end.
 pub fn piece_end(bytes: &[u8], at: usize, c: u8) -> usize
     ensures { result ≡ at + length (specs.piece c bytes.now at) }
 {
-    let mut end = at;
-    while end < bytes.len() {
-        if bytes[end] == c {
-            return end;
-        }
-        end += 1;
+    match bytes.get(at..) {
+        Some(rest) => at + size_before(rest, c),
+        None => at,
     }
-    end
 }
 
 // Whether each byte is a decimal digit.
 fn all_digits(word: &[u8]) -> bool
     ensures { result ≡ lines.all_digits word.now }
 {
-    let mut i = 0;
-    while i < word.len() {
-        let x = word[i];
-        if x < 48 {
-            return false;
-        }
-        if 57 < x {
-            return false;
-        }
-        i += 1;
-    }
-    true
+    word.iter().all(|b| b.is_ascii_digit())
+}
+
+// Whether a word is a number: 1 to `most` digits, zero as `0` and otherwise no leading zero.
+fn is_numeral(word: &[u8], most: usize) -> bool
+    ensures { result ≡ lines.is_numeral most word.now }
+{
+    let size = word.len();
+    1 <= size && size <= most && all_digits(word) && (size == 1 || word[0] != b'0')
 }
 
 // The number that up to nine digits write.
@@ -55,34 +49,25 @@ fn value(word: &[u8]) -> usize
     ensures { result ≡ lines.number word.now }
 {
     let mut v: usize = 0;
-    let mut i = 0;
-    while i < word.len() {
-        v = 10 * v + (wide(word[i]) - 48);
-        i += 1;
+    for b in word {
+        v = 10 * v + usize::from(*b - b'0');
     }
     v
 }
 
 // The number at a place: 1 to `most` digits, zero as `0` and otherwise no leading zero. Past the line's end there is none.
-pub fn number_at(line: &[u8], at: usize, most: usize) -> Numeral
+// (Not by `parse`, which takes a sign, leading zeros and any length.)
+pub fn number_at(line: &[u8], at: usize, most: usize) -> Option<Numeral>
     requires { most ≤ 9 }
     ensures { result ≡ specs.numeral_at most line.now at }
 {
-    let end = piece_end(line, at, 32);
-    let size = end - at;
-    if size < 1 {
-        return Numeral::Malformed;
+    let end = piece_end(line, at, b' ');
+    let word = line.get(at..end)?;
+    if !is_numeral(word, most) {
+        return None;
     }
-    if most < size {
-        return Numeral::Malformed;
-    }
-    if !all_digits(&line[at..end]) {
-        return Numeral::Malformed;
-    }
-    if size != 1 {
-        if line[at] == 48 {
-            return Numeral::Malformed;
-        }
-    }
-    Numeral::Number(value(&line[at..end]), end + 1)
+    Some(Numeral {
+        value: value(word),
+        next: end + 1,
+    })
 }

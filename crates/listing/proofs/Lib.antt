@@ -4,5 +4,6 @@ pub mod Norms
 pub mod Cases
 pub mod Digits
 pub mod Puts
+pub mod Prints
 pub mod Lines
 pub mod Rooms

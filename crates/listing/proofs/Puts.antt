@@ -1,32 +1,22 @@
 -- Writing one list behind the other. `Put e k xs out next`: the list e has had xs written over it from place k on, which gives out,
 -- and next is the place behind.
---     put-start, put_first   nothing yet; a first list
 --     put_next, put_byte     one list more, one byte more
 --     put_as                 the same list in other words
 --     put-length             the list keeps its length
---     put_copy, put-copied   a loop that copies a list, byte by byte
---     Left, left-none, left-next      the same with room for more bytes behind
+--     Left, left-none, left-next      nothing yet, and one list more, with room for more bytes behind
 -- Assumes nothing.
 use mathlib.Core.Path.{◌≡◌, refl, sym, ap, ap₂, subst, ◌∙◌}
 use mathlib.Core.List.{List, [], ◌∷◌, ◌++◌}
 use Prim.Native.Nat.{ℕ, ◌+◌, ◌≤◌, ◌<◌}
-use native.Mathlib.Numerals.{add-one}
 use native.Mathlib.Omega.{arith}
-use lib.ListN.{length, take, set, length-append}
-use lib.Seq.{take-suc, take_all}
-use Rattle.lists.specs.Places.{placed, at}
+use lib.ListN.{length, set, length-append}
+use Rattle.lists.specs.Places.{placed}
 use Rattle.lists.proofs.Placing.{placed-length, placed-nothing, placed-placed, placed-set}
 
 pub record Put (e : List ℕ) (k : ℕ) (xs out : List ℕ) (next : ℕ) : Type 0 where
   pub list : out ≡ placed e k xs
   pub ends : next ≡ k + length xs
   pub room : k + length xs ≤ length e
-
-pub put-start : (e : List ℕ) (k : ℕ) → k ≤ length e → Put e k [] e (k + 0)
-put-start e k h = record { list = sym (placed-nothing e k); ends = refl; room = omega arith }
-
-pub put_first : (e : List ℕ) (k : ℕ) (xs : List ℕ) {out : List ℕ} {next : ℕ} → out ≡ placed e k xs → next ≡ k + length xs → k + length xs ≤ length e → Put e k xs out next
-put_first e k xs h hn room = record { list = h; ends = hn; room = room }
 
 pub put-length : {e xs out : List ℕ} {k next : ℕ} → Put e k xs out next → length out ≡ length e
 put-length {e} {xs} {out} {k} p = ap length p.list ∙ placed-length e k xs p.room
@@ -46,18 +36,6 @@ put_as {e} {xs} {ys} {out} {k} {next} h p = subst (λ (zs : List ℕ). Put e k z
 pub put_byte : {e xs out : List ℕ} {k next : ℕ} (v : ℕ) → Put e k xs out next → next < length e → Put e k (xs ++ (v ∷ [])) (set out next v) (next + 1)
 put_byte {e} {xs} {out} {k} {next} v p h =
     put_next (v ∷ []) p (placed-set out next v (rw (put-length p) h)) refl (omega arith)
-
-pub put_copy : {e out : List ℕ} {k : ℕ} (bytes : List ℕ) (i : ℕ) → Put e k (take i bytes) out (k + i) → i < length bytes → k + length bytes ≤ length e
-    → Put e k (take (i + 1) bytes) (set out (k + i) (at bytes i)) (k + (i + 1))
-put_copy {e} {out} {k} bytes i p h room =
-    let r = put_byte (at bytes i) p (omega arith) in
-    let same : k + i + 1 ≡ k + (i + 1) = omega arith in
-    let front : take i bytes ++ (at bytes i ∷ []) ≡ take (i + 1) bytes = sym (rw (add-one, take-suc bytes i 0 h)) in
-    subst (λ (n : ℕ). Put e k (take (i + 1) bytes) (set out (k + i) (at bytes i)) n) same
-    (subst (λ (xs : List ℕ). Put e k xs (set out (k + i) (at bytes i)) (k + i + 1)) front r)
-
-pub put-copied : {e out : List ℕ} {k : ℕ} (bytes : List ℕ) (i : ℕ) → Put e k (take i bytes) out (k + i) → length bytes ≤ i → Put e k bytes out (k + i)
-put-copied {e} {out} {k} bytes i p h = subst (λ (xs : List ℕ). Put e k xs out (k + i)) (take_all i bytes h) p
 
 -- the same with room for some bytes more
 pub record Left (room : ℕ) (e : List ℕ) (k : ℕ) (xs out : List ℕ) (next : ℕ) : Type 0 where

@@ -3,3 +3,5 @@
 pub mod Norm
 pub mod Decimal
 pub mod Printed
+-- What only serves the code: what a printer does.
+pub mod Printing

@@ -5,18 +5,17 @@
 --     squares p ws from n   the sum of the squares of n weights of ws, from place `from` on, each by its short side
 --     worst P w d β         the worst norm
 --     norm_own β G          the call's own causes, where G is a plan as lent; `norm_causes G β`: all that it can meet, 1 2 3 4 5
---     answer_of a           01's number and values for each case of its answer: the norm, or the refusal's number
+--     answer_of a           01's number and values of its answer: the norm, or the refusal's number
 --     norm_answer G β       what `worst_norm` answers
-use Rattle.std.specs.Prelude.{Bool, cond, not, List, [], ◌∷◌, ℕ, ◌+◌, ◌-◌, ◌*◌, ◌/◌, max, ltb, length}
+use Rattle.std.specs.Prelude.{Bool, cond, not, List, [], ◌∷◌, ℕ, ◌+◌, ◌-◌, ◌*◌, ◌/◌, max, ltb, length, Result}
 use Rattle.lists.specs.Places.{sum, largest, at}
 use Rattle.field.specs.Rows.{all_below}
 use Rattle.plan.specs.declared.numbers.Plan.{Plan}
-use Rattle.plan.specs.Causes.{first, Answer, gives, refuses, answer}
+use Rattle.plan.specs.Causes.{first, Answer, answer, answer_with}
 use Rattle.plan.specs.Numbers.{variables}
 use Rattle.plan.specs.Parts.{Given, link_start, call_causes}
 use Rattle.plan.specs.declared.admission.Own.TheVariants.{Row}
-use Rattle.listing.specs.declared.norm.Normed.{Normed}
-use Rattle.listing.specs.declared.norm.Normed.TheVariants.{Norm, Refused}
+use Rattle.plan.specs.declared.refusal.Refusal.{Refusal}
 
 unfoldable pub short : ℕ → ℕ → ℕ
 short p w = cond (ltb ((p - 1) / 2) w) (p - w) w
@@ -37,9 +36,8 @@ norm_own β G = (5, not (all_below G.numbers.p β)) ∷ []
 abbrev pub norm_causes : Given → List ℕ → List (ℕ × Bool)
 norm_causes G β = call_causes G (Row (length β)) (norm_own β)
 
-abbrev pub answer_of : Normed → Answer
-answer_of (Norm x) = gives (x ∷ [])
-answer_of (Refused k) = refuses k
+abbrev pub answer_of : Result ℕ Refusal → Answer
+answer_of a = answer_with (λ x. x ∷ []) a
 
 -- the call as a whole
 abbrev pub norm_answer : Given → List ℕ → Answer

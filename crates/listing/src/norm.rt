@@ -1,57 +1,34 @@
 // The worst norm of a plan's weights and coefficients.
-ghost use Rattle.std.specs.Prelude.{◌≡◌, ◌+◌, ◌*◌, ◌≤◌, ◌<◌, max, length};
+ghost use Rattle.std.specs.Prelude.{◌≡◌, ◌+◌, ◌*◌, ◌≤◌, ◌<◌, length};
 ghost use Rattle.lists.specs.Places.{largest};
 ghost use Rattle.field.specs.Residues.{Residues};
 ghost use Rattle.plan.specs.Numbers.{Within, variables, columns};
-ghost use Rattle.plan.specs.Parts.{link_start, given};
+ghost use Rattle.plan.specs.Lending.{given_of};
+ghost use Rattle.plan.specs.Parts.{link_start};
 ghost use Rattle.listing.specs.Norm as specs;
 
-use plan::{Checked, Own, Plan, admit};
-
-// What the call answers: the norm, or the number of the refusal.
-#[derive(Clone, Copy)]
-pub enum Normed {
-    Norm(usize),
-    Refused(u8),
-}
+use plan::{LentPlan, Own, Plan, Refusal};
 
 // A weight by its short side, the smaller of w and p - w. A weight above the middle counts as w - p, which has the square of p - w.
 fn short_side(w: u8, p: u8) -> u8
     requires { w < p }
     ensures { result ≡ specs.short p w }
 {
-    let other = p - w;
-    if other < w {
-        return other;
-    }
-    w
+    w.min(p - w)
 }
 
-// The sum of the squares of the n weights from `begin` on, each by its short side.
-fn squares(ws: &[u8], begin: usize, n: usize, p: u8) -> usize
-    requires n_bound { n ≤ 64 }
-    requires n_in_bounds { begin + n ≤ length ws.now }
-    requires residues { Residues p ws.now }
-    ensures { result ≡ specs.squares p ws.now begin n }
+// The sum of the squares of a row's weights, each by its short side.
+fn squares(row: &[u8], p: u8) -> usize
+    requires few { length row.now ≤ 64 }
+    requires residues { Residues p row.now }
+    ensures { result ≡ specs.squares p row.now 0 (length row.now) }
 {
     let mut total: u32 = 0;
-    let mut j: usize = 0;
-    while j < n {
-        let w = short_side(ws[begin + j], p) as u32;
-        total += w * w;
-        j += 1;
+    for w in row {
+        let short = short_side(*w, p) as u32;
+        total += short * short;
     }
     total as usize
-}
-
-// The larger of two numbers.
-fn larger(a: usize, b: usize) -> usize
-    ensures { result ≡ max a b }
-{
-    if a < b {
-        return b;
-    }
-    a
 }
 
 // The largest over the link rows: `begin` is where link k's weights begin.
@@ -60,15 +37,12 @@ fn links_norm(plan: Plan, weights: &[u8]) -> usize
     requires weights_len { (length weights.now ≡ link_start plan plan.m) × (Residues plan.p weights.now) }
     ensures { result ≡ largest (λ k. specs.squares plan.p weights.now (link_start plan k) (plan.n + k)) plan.m }
 {
-    let n = plan.n;
     let mut top: usize = 0;
     let mut begin: usize = 0;
-    let mut k: usize = 0;
-    while k < plan.m {
-        let length = n + k;
-        top = larger(top, squares(weights, begin, length, plan.p));
-        begin += length;
-        k += 1;
+    for k in 0..plan.m {
+        let end = begin + (plan.n + k);
+        top = top.max(squares(&weights[begin..end], plan.p));
+        begin = end;
     }
     top
 }
@@ -80,17 +54,14 @@ fn rows_norm(ws: &[u8], l: usize, count: usize, p: u8) -> usize
     ensures { result ≡ largest (λ b. specs.squares p ws.now (b * l) l) count }
 {
     let mut top: usize = 0;
-    let mut begin: usize = 0;
-    let mut b: usize = 0;
-    while b < count {
-        top = larger(top, squares(ws, begin, l, p));
-        begin += l;
-        b += 1;
+    for b in 0..count {
+        let begin = b * l;
+        top = top.max(squares(&ws[begin..begin + l], p));
     }
     top
 }
 
-// The worst norm of a checked plan with its parts and β as lent.
+// The worst norm of a checked plan with its parts and β as lent. No `CheckedPlan` is asked for: tables and radices may be anything.
 pub fn worst(plan: Plan, weights: &[u8], d: &[u8], beta: &[u8]) -> usize
     requires within { Within plan }
     requires weights_len { (length weights.now ≡ link_start plan plan.m) × (Residues plan.p weights.now) }
@@ -102,42 +73,16 @@ pub fn worst(plan: Plan, weights: &[u8], d: &[u8], beta: &[u8]) -> usize
     let links = links_norm(plan, weights);
     let products = rows_norm(d, l, plan.t, plan.p);
     let last = rows_norm(beta, l, plan.t + 1, plan.p);
-    larger(links, larger(products, last))
+    links.max(products.max(last))
 }
 
 // The worst norm of the lent plan and β: causes 1 2 3 4 5.
-pub fn worst_norm(
-    p: usize,
-    s: usize,
-    n: usize,
-    m: usize,
-    t: usize,
-    radices: &[u8],
-    weights: &[u8],
-    tables: &[u8],
-    d: &[u8],
-    beta: &[u8],
-) -> Normed
-    ensures { specs.answer_of result ≡ specs.norm_answer (given p s n m t radices.now weights.now tables.now d.now) beta.now }
+pub fn worst_norm(lent: &LentPlan, beta: &[u8]) -> Result<usize, Refusal>
+    ensures { specs.answer_of result ≡ specs.norm_answer (given_of lent.now) beta.now }
 {
-    match admit(
-        p,
-        s,
-        n,
-        m,
-        t,
-        radices,
-        weights,
-        tables,
-        d,
-        Own::Row(beta.len()),
-    ) {
-        Checked::Refused(k) => Normed::Refused(k),
-        Checked::Accepted(plan) => {
-            if !field::all_below(beta, plan.p) {
-                return Normed::Refused(5);
-            }
-            Normed::Norm(worst(plan, weights, d, beta))
-        }
+    let plan = lent.admit(Own::Row(beta.len()))?;
+    if !field::all_below(beta, plan.numbers.p) {
+        return Err(Refusal::Residue);
     }
+    Ok(worst(plan.numbers, plan.weights, plan.products, beta))
 }

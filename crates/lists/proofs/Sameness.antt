@@ -2,19 +2,18 @@
 --     same_refl, same_true      a list is the same as itself, and two that are the same are equal
 --     same-unlike               lists of other lengths are not
 --     same-snoc                 an element more at the end of both makes no difference
---     same_step, same-refuted, same_end      two lists from a place on
+--     eq-same                   what `==` answers of two lists of numbers is the test `same`
 -- Assumes nothing.
 use mathlib.Core.Path.{◌≡◌, refl, ap, ap₂, ◌∙◌}
 use mathlib.Core.Bool.{Bool, true, false, ◌&&◌, false≢true}
 use mathlib.Core.List.{List, [], ◌∷◌, ◌++◌}
-use Prim.Native.Nat.{ℕ, ◌+◌, ◌≤◌, ◌<◌}
-use native.Mathlib.Numerals.{add-one}
+use Prim.Native.Nat.{ℕ}
 use native.Mathlib.Omega.{arith}
 use lib.Dec.{eqb}
-use lib.ListN.{length, drop, drop_of_length-le, length-append}
-use lib.Seq.{drop-cons}
-use borrow.Author.Tests.{eq-eqb, ne_eqb, eqb-true}
-use Rattle.lists.specs.Places.{at, same}
+use lib.ListN.{length, length-append}
+use lib.Pointwise.{pointwise}
+use borrow.Author.Tests.{eq-eqb, eqb-true}
+use Rattle.lists.specs.Places.{same}
 use Rattle.lists.proofs.Tests.{both_true, refute, and-false}
 
 pub same_refl : (xs : List ℕ) → same xs xs ≡ true
@@ -41,19 +40,9 @@ same-snoc c [] (y ∷ ys) = rw (same-unlike [] (ys ++ (c ∷ [])) (λ e. omega (
 same-snoc c (x ∷ xs) [] = rw (same-unlike (xs ++ (c ∷ [])) [] (λ e. omega (arith, e, length-append xs (c ∷ [])))) (and-false (eqb x c))
 same-snoc c (x ∷ xs) (y ∷ ys) = ap (λ (b : Bool). eqb x y && b) (same-snoc c xs ys)
 
-module _ (xs ys : List ℕ) (i : ℕ) (hx : i < length xs) (hy : i < length ys) where
-  same-cons : same (drop i xs) (drop i ys) ≡ (eqb (at xs i) (at ys i) && same (drop (i + 1) xs) (drop (i + 1) ys))
-  unfolding same
-  same-cons = rw (add-one, drop-cons xs i 0 hx, drop-cons ys i 0 hy)
-
-  pub same_step : at xs i ≡ at ys i → same (drop i xs) (drop i ys) ≡ same (drop (i + 1) xs) (drop (i + 1) ys)
-  same_step e = same-cons ∙ rw (eq-eqb (at xs i) (at ys i) e)
-
-  pub same-refuted : (at xs i ≡ at ys i → ⊥) → same (drop i xs) (drop i ys) ≡ false
-  same-refuted e = same-cons ∙ rw (ne_eqb (at xs i) (at ys i) e)
-
-pub same_end : (xs ys : List ℕ) (i : ℕ) → length xs ≡ length ys → length xs ≤ i → same (drop i xs) (drop i ys) ≡ true
+pub eq-same : (xs ys : List ℕ) → pointwise eqb xs ys ≡ same xs ys
 unfolding same
-same_end xs ys i e h =
-    let h' : length ys ≤ i = omega arith in
-    rw (drop_of_length-le xs h, drop_of_length-le ys h')
+eq-same [] [] = refl
+eq-same [] (y ∷ ys) = refl
+eq-same (x ∷ xs) [] = refl
+eq-same (x ∷ xs) (y ∷ ys) = ap (λ (b : Bool). eqb x y && b) (eq-same xs ys)

@@ -4,15 +4,19 @@
 --     and-false, and_assoc     the standard library's, passed on
 --     both_true, both          from a conjunction to its halves, and back
 --     every-next, every-cons   one place more, at the end and in front
+--     every-list_all           a test of each number of a list, as std has it
 --     every-at, every_of       from the test to a place, and from all places to the test
 -- Assumes nothing.
 use mathlib.Core.Path.{◌≡◌, refl, sym, ap, ◌∙◌}
 use mathlib.Core.Bool.{Bool, true, false, ◌&&◌, false≢true}
+use mathlib.Core.List.{List, [], ◌∷◌}
 use mathlib.Core.Logic.{⊎_elim}
 use Prim.Native.Nat.{ℕ, zero, suc, ◌+◌, ◌<◌}
 use native.Mathlib.Nat.{le_of_suc-le-suc, not-suc-le-zero, le_step, lt-suc_self, eq-or-lt_of_le}
 use native.Mathlib.Numerals.{add-one}
-use Rattle.lists.specs.Places.{every}
+use lib.ListN.{length}
+use Rattle.std.specs.List.{list_all}
+use Rattle.lists.specs.Places.{every, at}
 pub use mathlib.Core.Bool.{and-false, and_assoc}
 
 pub refute : (b : Bool) → (b ≡ true → ⊥) → b ≡ false
@@ -55,3 +59,9 @@ pub every_of : (f : ℕ → Bool) (n : ℕ) → ((i : ℕ) → i < n → f i ≡
 unfolding every
 every_of f zero h = refl
 every_of f (suc n) h = both (every f n) (f n) (every_of f n (λ i l. h i (le_step l))) (h n (lt-suc_self n))
+
+-- a test of each number of a list is std's `list_all`
+pub every-list_all : (f : ℕ → Bool) (xs : List ℕ) → every (λ j. f (at xs j)) (length xs) ≡ list_all f xs
+unfolding every
+every-list_all f [] = refl
+every-list_all f (x ∷ xs) = every-cons (λ j. f (at (x ∷ xs) j)) (length xs) ∙ ap (λ (b : Bool). f x && b) (every-list_all f xs)

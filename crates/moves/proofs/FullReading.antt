@@ -1,15 +1,14 @@
 -- The test of a store in the layout before C-16, which takes whole rows: what lies left of the diagonals is told apart from the rest, which is tested
 -- as in the new layout.
---     cut-row                    a row as the loop cuts it
 --     full-next                  the state after a row more
 --     full-damaged-exactly       after the last row the state says damaged exactly when the store is not in reduced form
+--     reduced-exactly            and not damaged exactly when it is
 -- Assumes nothing.
-use mathlib.Core.Path.{◌≡◌, refl, sym, ap, ap₂, ◌∙◌}
-use mathlib.Core.Bool.{Bool, true, false, not, ◌&&◌, true≢false}
+use mathlib.Core.Path.{◌≡◌, refl, sym, ap, ◌∙◌}
+use mathlib.Core.Bool.{Bool, true, false, not, not-not, ◌&&◌, true≢false}
 use mathlib.Core.Logic.{◌↔◌}
 use mathlib.Core.List.{List}
 use Prim.Native.Nat.{ℕ, zero, suc, ◌+◌, ◌-◌, ◌*◌, ◌≤◌, ◌<◌}
-use native.Mathlib.Nat.{add-sub_cancel_left}
 use native.Mathlib.Numerals.{add-one}
 use native.Mathlib.Decide.{dec_lt}
 use native.Mathlib.Omega.{arith}
@@ -17,7 +16,7 @@ use lib.ListN.{length, take, drop, length-take, length-drop}
 use lib.Seq.{get_or-take, get_or-drop}
 use Rattle.lists.specs.Places.{every, at}
 use Rattle.lists.proofs.Tests.{refute, every-at, every_of}
-use Rattle.lists.proofs.Parts.{part_length, part_at, at-past}
+use Rattle.lists.proofs.Parts.{part_length, at-past}
 use Rattle.field.specs.Residues.{Residues}
 use Rattle.field.specs.Rows.{all_below}
 use Rattle.field.proofs.Ranges.{residues-of, below_of}
@@ -29,6 +28,7 @@ use Rattle.store.proofs.OneReading.{damaged-exactly}
 use Rattle.moves.specs.Moves.{full_cells}
 use Rattle.moves.specs.FullRows.{full_row, full_took, full_after}
 use Rattle.moves.proofs.FullLayout.{full-end}
+use Rattle.moves.proofs.FullChunks.{row-place}
 
 -- the tests of a row, in the order of the code and in that of the two halves
 moved : (row left lefts rows : Bool) → (row && (left && (lefts && rows))) ≡ ((lefts && left) && (row && rows))
@@ -49,27 +49,21 @@ module _ (C : ℕ) (full : List ℕ) where
   abbrev kept : ℕ → List ℕ
   kept q = drop q (full_row C full q)
 
-  pub cut-row : (q begin : ℕ) → begin ≡ q * (C + 1) → take (begin + (C + 1) - begin) (drop begin full) ≡ full_row C full q
-  cut-row q begin e = ap₂ (λ (n a : ℕ). take n (drop a full)) (add-sub_cancel_left begin (C + 1)) e
-
   pub full-next : (p q : ℕ) → full_after p C full (q + 1) ≡ full_took p q (full_after p C full q) (full_row C full q)
   unfolding full_after
   full-next p q = rw (add-one q)
 
-  place : (q j : ℕ) → j ≤ C → at (full_row C full q) j ≡ full_cells C full q j
-  place q j h = part_at full (q * (C + 1)) (C + 1) j (omega arith)
-
   left-means : (every left C ≡ true) ↔ ((q j : ℕ) → q < C → j < q → full_cells C full q j ≡ 0)
   left-means = (
     (λ h q j l k.
-        sym (get_or-take q (full_row C full q) j 0 k ∙ place q j (omega arith))
+        sym (get_or-take q (full_row C full q) j 0 k ∙ row-place C full q j (omega arith))
         ∙ omega (arith, residues-of 1 (take q (full_row C full q)) (omega arith) (every-at left C h q l) j)),
     (λ h. every_of left C (λ q l. below_of 1 (take q (full_row C full q)) (zeros h q l))),
   )
     where
       zeros : ((q j : ℕ) → q < C → j < q → full_cells C full q j ≡ 0) → (q : ℕ) → q < C → Residues 1 (take q (full_row C full q))
       zeros h q l j = elim (dec_lt j q) [
-        | yes k ↦ omega (arith, get_or-take q (full_row C full q) j 0 k, place q j (omega arith), h q j l k)
+        | yes k ↦ omega (arith, get_or-take q (full_row C full q) j 0 k, row-place C full q j (omega arith), h q j l k)
         | no k ↦ omega (arith, at-past (take q (full_row C full q)) j (rw length-take (omega arith)))
       ]
 
@@ -87,7 +81,7 @@ module _ (C : ℕ) (full : List ℕ) where
     rows-damaged zero_left =
         damaged-exactly p C (full_cells C full) kept (left-means.0 zero_left) low
         (λ q l. length-drop q (full_row C full q) ∙ ap (λ (n : ℕ). n - q) (part_length full (q * (C + 1)) (C + 1) (omega (arith, full-end C q l))))
-        (λ q i l h. get_or-drop q (full_row C full q) i 0 ∙ place q (q + i) h)
+        (λ q i l h. get_or-drop q (full_row C full q) i 0 ∙ row-place C full q (q + i) h)
 
     unreduced : every left C ≡ false → is_reduced p C (full_cells C full) ≡ false
     unreduced some =
@@ -101,3 +95,6 @@ module _ (C : ℕ) (full : List ℕ) where
 
     pub full-damaged-exactly : is_damaged p (full_after p C full C) ≡ not (is_reduced p C (full_cells C full))
     full-damaged-exactly = ap (is_damaged p) (halves p C) ∙ by-halves (every left C) refl
+
+    pub reduced-exactly : not (is_damaged p (full_after p C full C)) ≡ is_reduced p C (full_cells C full)
+    reduced-exactly = ap not full-damaged-exactly ∙ not-not (is_reduced p C (full_cells C full))

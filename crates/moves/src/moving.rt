@@ -10,17 +10,12 @@ pub fn halve(full: &[u8], half: &mut [u8], c: usize)
     requires half_len { length half.old ≡ store_size c }
     ensures { half.new ≡ specs.halved c full.now }
 {
-    let mut from: usize = 0;
-    let mut to: usize = 0;
-    let mut q: usize = 0;
-    while q < c {
-        let count = c + 1 - q;
-        let from_end = from + count;
-        let to_end = to + count;
-        field::copy(&mut half[to..to_end], &full[from..from_end]);
-        from = from_end + (q + 1);
-        to = to_end;
-        q += 1;
+    let width = c + 1;
+    let mut to = 0;
+    for (q, row) in full.chunks_exact(width).enumerate() {
+        let end = to + (width - q);
+        half[to..end].copy_from_slice(&row[q..]);
+        to = end;
     }
 }
 
@@ -29,8 +24,8 @@ fn widen_row(row: &mut [u8], part: &[u8], q: usize)
     requires { length row.old ≡ q + length part.now }
     ensures { row.new ≡ replicate q 0 ++ part.now }
 {
-    field::clear(&mut row[..q]);
-    field::copy(&mut row[q..], part);
+    row[..q].fill(0);
+    row[q..].copy_from_slice(part);
 }
 
 // To the old layout: each row with zeros left of its diagonal.
@@ -41,15 +36,13 @@ pub fn widen(half: &[u8], full: &mut [u8], c: usize)
     ensures { full.new ≡ specs.widened c half.now }
 {
     let width = c + 1;
-    let mut from: usize = 0;
-    let mut to: usize = 0;
-    let mut q: usize = 0;
-    while q < c {
+    let mut from = 0;
+    // By places: what chunks_exact_mut lent is known by its length alone once it is back.
+    for q in 0..c {
         let from_end = from + (width - q);
+        let to = q * width;
         let to_end = to + width;
         widen_row(&mut full[to..to_end], &half[from..from_end], q);
         from = from_end;
-        to = to_end;
-        q += 1;
     }
 }

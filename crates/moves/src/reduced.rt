@@ -22,25 +22,10 @@ fn take_full_row(sound: bool, tops: &mut [u8], row: &[u8], q: usize, p: u8) -> b
     let above = tops[0];
     let first = row[q];
     if first == 0 {
-        if !field::all_below(row, 1) {
-            return false;
-        }
-        if above < p {
-            return sound;
-        }
-        return false;
+        return field::all_below(row, 1) && above < p && sound;
     }
     field::raise(tops, &row[q..]);
-    if !field::all_below(&row[..q], 1) {
-        return false;
-    }
-    if above != 0 {
-        return false;
-    }
-    if first != 1 {
-        return false;
-    }
-    sound
+    field::all_below(&row[..q], 1) && above == 0 && first == 1 && sound
 }
 
 // The rows one by one in order, from columns that are zero.
@@ -53,13 +38,8 @@ fn take_full_rows(tops: &mut [u8], full: &[u8], c: usize, p: u8) -> bool
 {
     let width = c + 1;
     let mut sound = true;
-    let mut begin: usize = 0;
-    let mut q: usize = 0;
-    while q < c {
-        let end = begin + width;
-        sound = take_full_row(sound, &mut tops[q..width], &full[begin..end], q, p);
-        begin = end;
-        q += 1;
+    for (q, row) in full.chunks_exact(width).enumerate() {
+        sound = take_full_row(sound, &mut tops[q..width], row, q, p);
     }
     sound
 }
@@ -74,8 +54,5 @@ pub fn is_reduced_full(full: &[u8], c: usize, p: u8) -> bool
     // One byte more than columns would do; with eight the array, as compiled, begins at a multiple of 16.
     let mut tops = [0u8; Plan::COLUMNS + 8];
     let width = c + 1;
-    if !take_full_rows(&mut tops[..width], full, c, p) {
-        return false;
-    }
-    tops[c] < p
+    take_full_rows(&mut tops[..width], full, c, p) && tops[c] < p
 }

@@ -1,10 +1,11 @@
 -- What every call that is lent a plan does first (`admitted` of specs/Parts), and what its answer says of the call's causes. A call's refusal
 -- is that of its numbers, else that of its parts, else that of its own causes (`split`); all else is the arithmetic of `or_else`.
---     size-limit                                    the size of a store, in the layout before too, within the limits of a plan
 --     lent_of                                       parts that meet neither of causes 4 and 5 are lent as the plan asks
 --     admit-numbers, admit-parts, admit-passed      what `admit` answers, from the constructor's and the parts' refusals
 --     Admitted, admission                           an admitted call: its plan is within its limits, its parts are as the plan asks, and only its
 --                                                   own causes are left
+--     Passing, passing                              the same by what `admit` answers
+--     size-limit                                    the size of a store, in the layout before too, within the limits of a plan
 --     turned-away                                   a call that is not admitted: the refusal is the call's
 --     Unrefused, unrefused                          a call that is not refused meets none of its causes
 --     other-causes                                  another call on the same plan and parts is then left its own causes alone
@@ -22,16 +23,17 @@ use borrow.Author.Tests.{eqb-true, not-false}
 use Rattle.lists.proofs.Tests.{both_true}
 use Rattle.field.specs.Rows.{all_below}
 use Rattle.field.proofs.Ranges.{residues-of}
-use Rattle.plan.specs.Causes.{first, gives}
-use Rattle.plan.specs.Numbers.{variables, product, radices_fit, number_causes, plan, numbers_of, answer_of, checked, Within}
+use Rattle.plan.specs.Causes.{first, gives, refuses}
+use Rattle.plan.specs.Numbers.{variables, product, radices_fit, number_causes, plan, numbers_of, checked, Within}
 use Rattle.plan.specs.Parts.{Given, lend, given, link_start, lengths_fit, values_fit, full_size, own_fits, part_causes, call_causes, check_causes, admitted, Lent}
 use Rattle.plan.specs.declared.numbers.Plan.{Plan}
-use Rattle.plan.specs.declared.numbers.Checked.TheVariants.{Accepted, Refused}
 use Rattle.plan.specs.declared.admission.Own.{Own}
 use Rattle.plan.specs.declared.admission.Own.TheVariants.{Nothing}
+use Rattle.plan.specs.Lending.{whole}
+use Rattle.plan.specs.declared.lending.CheckedPlan.{CheckedPlan}
 use Rattle.plan.proofs.Bounds.{prime-low}
 use Rattle.plan.proofs.Refusals.{or_else, first-append, none-met, answer-refuses, answer-gives, refused-answer, given-answer}
-use Rattle.plan.proofs.Limits.{within_of, radices-of, numbers-same, refused-number, accepted-plan}
+use Rattle.plan.proofs.Limits.{numbers-same, within_of, radices-of, refused-number, accepted-plan}
 
 pub size-limit : (C : ℕ) → C ≤ 1024 → full_size C ≤ 1049600
 unfolding full_size
@@ -114,10 +116,10 @@ module _ (G : Given) (own : Own) where
       let none = none_of (first numbered) (first parts) (first (rest G)) (sym (split rest) ∙ e) in
       split others ∙ only-last (first numbered) (first parts) (first (others G)) none.0 none.1
 
-  pub turned-away : {k : ℕ} → admitted G own ≡ answer_of (Refused k) → (rest : Given → List (ℕ × Bool)) → (k ≡ first (call_causes G own rest)) × (0 < k)
-  unfolding admitted answer_of
+  pub turned-away : {k : ℕ} → refuses k ≡ admitted G own → (rest : Given → List (ℕ × Bool)) → (k ≡ first (call_causes G own rest)) × (0 < k)
+  unfolding admitted
   turned-away {k} e rest =
-      let r = answer-refuses (first (call_causes G own (λ _. []))) (numbers_of G.numbers) k e in
+      let r = answer-refuses (first (call_causes G own (λ _. []))) (numbers_of G.numbers) k (sym e) in
       (early (first numbered) (first parts) (first (rest G)) k (sym (split (λ _. [])) ∙ r.0) r.1 ∙ sym (split rest), r.1)
 
   -- only the call's own causes are left
@@ -128,8 +130,8 @@ module _ (G : Given) (own : Own) where
     pub own-fits : own_fits own Q G.radices ≡ true
     pub rest : (causes : Given → List (ℕ × Bool)) → first (call_causes G own causes) ≡ first (causes (lend Q G.radices G.weights G.tables G.products))
 
-  pub admission : {Q : Plan} → admitted G own ≡ answer_of (Accepted Q) → Admitted Q
-  unfolding admitted answer_of
+  pub admission : {Q : Plan} → admitted G own ≡ gives (numbers_of Q) → Admitted Q
+  unfolding admitted
   admission {Q} e =
       let a = answer-gives (first (call_causes G own (λ _. []))) (numbers_of G.numbers) (numbers_of Q) e in
       let none = none_of (first numbered) (first parts) 0 (sym (split (λ _. [])) ∙ a.0) in
@@ -141,6 +143,20 @@ module _ (G : Given) (own : Own) where
         own-fits = u.own-fits;
         rest = λ causes. split causes ∙ only-last (first numbered) (first parts) (first (causes G)) none.0 none.1;
       })
+
+  -- the same of what `admit` answers, whose parts are those lent: it has its limits with it
+  pub record Passing (Q : CheckedPlan) : Type 1 where
+    pub own-fits : own_fits own Q.numbers Q.radices.now ≡ true
+    pub rest : (causes : Given → List (ℕ × Bool)) → first (call_causes G own causes) ≡ first (causes (whole Q))
+
+  pub passing : (Q : CheckedPlan) → record { answer : gives (numbers_of Q.numbers) ≡ admitted G own; same : whole Q ≡ G } → Passing Q
+  passing Q e =
+      let a = admission (sym e.answer) in
+      let back : lend Q.numbers G.radices G.weights G.tables G.products ≡ whole Q = ap (λ (P : Plan). lend P G.radices G.weights G.tables G.products) (sym a.same) ∙ sym e.same in
+      record {
+        own-fits = ap (λ (H : Given). own_fits own H.numbers H.radices) (sym back) ∙ a.own-fits;
+        rest = λ causes. a.rest causes ∙ ap (λ (H : Given). first (causes H)) back;
+      }
 
 -- a plan that is accepted by itself leaves a call its own causes alone
 pub accepted-call : (G : Given) → first (check_causes G) ≡ 0 → (own : Own) (rest : Given → List (ℕ × Bool)) → own_fits own G.numbers G.radices ≡ true
@@ -159,27 +175,27 @@ module _ (p s n m t : ℕ) (R w T d : List ℕ) (own : Own) where
   refusal_is a b k ha hb e = split (given p s n m t R w T d) own (λ _. []) ∙ ap₂ (λ (i j : ℕ). or_else i (or_else j 0)) ha hb ∙ e
 
   -- k is not 0
-  whole : (k j : ℕ) → 0 < k → or_else k j ≡ k
-  whole zero j l = absurd (omega arith)
-  whole (suc k) j l = refl
+  decides : (k j : ℕ) → 0 < k → or_else k j ≡ k
+  decides zero j l = absurd (omega arith)
+  decides (suc k) j l = refl
 
-  pub admit-numbers : (k : ℕ) → checked p s n m t R ≡ answer_of (Refused k) → answer_of (Refused k) ≡ admitted (given p s n m t R w T d) own
-  unfolding admitted answer_of
+  pub admit-numbers : (k : ℕ) → checked p s n m t R ≡ refuses k → refuses k ≡ admitted (given p s n m t R w T d) own
+  unfolding admitted
   admit-numbers k e =
       let r = refused-number p s n m t R k e in
-      refused-answer k _ (numbers_of (plan p s n m t)) (sym (refusal_is k _ k r.0 refl (whole k _ r.1))) r.1
+      refused-answer k _ (numbers_of (plan p s n m t)) (sym (refusal_is k _ k r.0 refl (decides k _ r.1))) r.1
 
-  module _ (Q : Plan) (e : checked p s n m t R ≡ answer_of (Accepted Q)) where
+  module _ (Q : Plan) (e : checked p s n m t R ≡ gives (numbers_of Q)) where
     over : (k : ℕ) → k ≡ first (part_causes (lend Q R w T d) (own_fits own Q R)) → first (call_causes (given p s n m t R w T d) own (λ _. [])) ≡ or_else k 0
     over k h =
         let a = accepted-plan p s n m t R e in
         refusal_is 0 k (or_else k 0) a.0 (ap (λ (P : Plan). first (part_causes (lend P R w T d) (own_fits own P R))) a.1 ∙ sym h) refl
 
-    pub admit-parts : (k : ℕ) → k ≡ first (part_causes (lend Q R w T d) (own_fits own Q R)) → 0 < k → answer_of (Refused k) ≡ admitted (given p s n m t R w T d) own
-    unfolding admitted answer_of
-    admit-parts k h l = refused-answer k _ (numbers_of (plan p s n m t)) (sym (over k h ∙ whole k 0 l)) l
+    pub admit-parts : (k : ℕ) → k ≡ first (part_causes (lend Q R w T d) (own_fits own Q R)) → 0 < k → refuses k ≡ admitted (given p s n m t R w T d) own
+    unfolding admitted
+    admit-parts k h l = refused-answer k _ (numbers_of (plan p s n m t)) (sym (over k h ∙ decides k 0 l)) l
 
-    pub admit-passed : 0 ≡ first (part_causes (lend Q R w T d) (own_fits own Q R)) → answer_of (Accepted Q) ≡ admitted (given p s n m t R w T d) own
-    unfolding admitted answer_of
+    pub admit-passed : 0 ≡ first (part_causes (lend Q R w T d) (own_fits own Q R)) → gives (numbers_of Q) ≡ admitted (given p s n m t R w T d) own
+    unfolding admitted
     admit-passed h =
         ap (λ (P : Plan). gives (numbers_of P)) (sym (accepted-plan p s n m t R e).1) ∙ given-answer _ (numbers_of (plan p s n m t)) (over 0 h)

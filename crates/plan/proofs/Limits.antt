@@ -1,24 +1,21 @@
 -- The constructor's answer, and what it says of the plan's numbers and radices.
---     within_of, radices-of                                      numbers and radices that meet none of causes 1 to 3 are within their limits
---     refused-number, accepted-plan                              what the constructor's answer says
---     out_of_range-true                                               numbers that break a limit
---     refused-prime .. refused-product, accepts                  its answer from its tests
+--     within_of, radices-of                                                numbers and radices that meet none of causes 1 to 3 are within their limits
+--     refused-number, accepted-plan, accepted-radices, accepted-within     what the constructor's answer says
 -- Assumes nothing.
-use mathlib.Core.Path.{◌≡◌, ap, subst}
+use mathlib.Core.Path.{◌≡◌, sym, ap, subst, ◌∙◌}
 use mathlib.Core.Bool.{true, false, not, ◌||◌}
 use mathlib.Core.List.{List}
 use Prim.Native.Nat.{ℕ, ◌+◌, ◌*◌, ◌≤◌, ◌<◌}
 use native.Mathlib.Omega.{arith}
 use lib.Dec.{ltb}
-use borrow.Author.Tests.{ltb-false, lt-ltb, le-ltb, not-false}
+use borrow.Author.Tests.{ltb-false, not-false}
 use Rattle.lists.specs.Places.{at}
 use Rattle.field.specs.Primes.{odd_prime}
-use Rattle.plan.specs.Causes.{first}
-use Rattle.plan.specs.Numbers.{product, bad_radix, radices_fit, out_of_range, number_causes, plan, numbers_of, answer_of, checked, Within}
+use Rattle.plan.specs.Causes.{first, gives, refuses}
+use Rattle.plan.specs.Numbers.{product, bad_radix, radices_fit, out_of_range, number_causes, plan, numbers_of, checked, Within}
 use Rattle.plan.specs.declared.numbers.Plan.{Plan}
-use Rattle.plan.specs.declared.numbers.Checked.TheVariants.{Accepted, Refused}
 use Rattle.plan.proofs.Refusals.{none-met, answer-refuses, answer-gives}
-use Rattle.plan.proofs.Radix.{neither, decided, radix-facts}
+use Rattle.plan.proofs.Radix.{neither, radix-facts}
 
 InRange : ℕ → ℕ → ℕ → Type 0
 InRange n m t = (1 ≤ n) × (n + m ≤ 64) × (t ≤ 32) × ((t + 1) * (n + m) ≤ 1024)
@@ -30,10 +27,6 @@ range-facts n m t h =
     let r2 = neither (ltb 64 (n + m)) (ltb 32 t || ltb 1024 ((t + 1) * (n + m))) r1.1 in
     let r3 = neither (ltb 32 t) (ltb 1024 ((t + 1) * (n + m))) r2.1 in
     (ltb-false n 1 r1.0, ltb-false 64 (n + m) r2.0, ltb-false 32 t r3.0, ltb-false 1024 ((t + 1) * (n + m)) r3.1)
-
-pub out_of_range-true : (n m t : ℕ) → (1 ≤ n → n + m ≤ 64 → t ≤ 32 → (t + 1) * (n + m) ≤ 1024 → ⊥) → out_of_range n m t ≡ true
-unfolding InRange
-out_of_range-true n m t h = decided (out_of_range n m t) (λ e. let r = range-facts n m t e in h r.0 r.1 r.2 r.3)
 
 module _ (p s n m t : ℕ) (R : List ℕ) where
   pub within_of : first (number_causes p s n m t R) ≡ 0 → Within (plan p s n m t)
@@ -64,45 +57,21 @@ pub numbers-same : (P Q : Plan) → numbers_of P ≡ numbers_of Q → P ≡ Q
 numbers-same P Q e = ap (λ (ns : List ℕ). plan (at ns 0) (at ns 1) (at ns 2) (at ns 3) (at ns 4)) e
 
 module _ (p s n m t : ℕ) (R : List ℕ) where
-  pub refused-number : (k : ℕ) → checked p s n m t R ≡ answer_of (Refused k) → (first (number_causes p s n m t R) ≡ k) × (0 < k)
-  unfolding checked answer_of
+  pub refused-number : (k : ℕ) → checked p s n m t R ≡ refuses k → (first (number_causes p s n m t R) ≡ k) × (0 < k)
+  unfolding checked
   refused-number k e = answer-refuses (first (number_causes p s n m t R)) (numbers_of (plan p s n m t)) k e
 
-  pub accepted-plan : {Q : Plan} → checked p s n m t R ≡ answer_of (Accepted Q) → (first (number_causes p s n m t R) ≡ 0) × (plan p s n m t ≡ Q)
-  unfolding checked answer_of
+  pub accepted-plan : {Q : Plan} → checked p s n m t R ≡ gives (numbers_of Q) → (first (number_causes p s n m t R) ≡ 0) × (plan p s n m t ≡ Q)
+  unfolding checked
   accepted-plan {Q} e =
       let a = answer-gives (first (number_causes p s n m t R)) (numbers_of (plan p s n m t)) (numbers_of Q) e in
       (a.0, numbers-same (plan p s n m t) Q a.1)
 
-  pub accepted-within : {Q : Plan} → checked p s n m t R ≡ answer_of (Accepted Q) → Within Q
+  pub accepted-radices : {Q : Plan} → checked p s n m t R ≡ gives (numbers_of Q) → (radices_fit Q.p R ≡ true) × (product R ≤ 4096)
+  accepted-radices e =
+      let a = accepted-plan e in
+      let r = radices-of p s n m t R a.0 in
+      (ap (λ (P : Plan). radices_fit P.p R) (sym a.1) ∙ r.0, r.1)
+
+  pub accepted-within : {Q : Plan} → checked p s n m t R ≡ gives (numbers_of Q) → Within Q
   accepted-within e = let a = accepted-plan e in subst Within a.1 (within_of p s n m t R a.0)
-
--- the constructor's answers, test by test
-module _ (p s n m t : ℕ) (R : List ℕ) where
-  pub refused-prime : odd_prime p ≡ false → answer_of (Refused 1) ≡ checked p s n m t R
-  unfolding checked answer_of
-  refused-prime e = rw e
-
-  module _ (prime : odd_prime p ≡ true) where
-    pub refused-value : bad_radix p s ≡ true → answer_of (Refused 2) ≡ checked p s n m t R
-    unfolding checked answer_of
-    refused-value e = rw (prime, e)
-
-    module _ (value : bad_radix p s ≡ false) where
-      pub refused-radices : radices_fit p R ≡ false → answer_of (Refused 2) ≡ checked p s n m t R
-      unfolding checked answer_of
-      refused-radices e = rw (prime, value, e)
-
-      module _ (fit : radices_fit p R ≡ true) where
-        pub refused-range : out_of_range n m t ≡ true → answer_of (Refused 3) ≡ checked p s n m t R
-        unfolding checked answer_of
-        refused-range e = rw (prime, value, fit, e)
-
-        module _ (range : out_of_range n m t ≡ false) where
-          pub refused-product : 4096 < product R → answer_of (Refused 3) ≡ checked p s n m t R
-          unfolding checked answer_of
-          refused-product l = rw (prime, value, fit, range, lt-ltb 4096 (product R) l)
-
-          pub accepts : product R ≤ 4096 → answer_of (Accepted (plan p s n m t)) ≡ checked p s n m t R
-          unfolding checked answer_of
-          accepts l = rw (prime, value, fit, range, le-ltb 4096 (product R) l)

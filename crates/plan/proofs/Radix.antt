@@ -1,5 +1,4 @@
 -- The radices and their product.
---     at_most                                      the two tests of a ≤ b
 --     radix-facts                                  what the test of one radix says, and of s
 --     radices-at, radices-positive                 the test of the radices says that each is 2 to p, so none is 0
 --     product-next, product-split, product-drop    the product with a radix more at the end, cut in two, and with its first radix apart
@@ -10,13 +9,12 @@ use mathlib.Core.Bool.{Bool, true, false, not, ◌||◌, true≢false}
 use mathlib.Core.List.{List, [], ◌∷◌, ◌++◌}
 use Prim.Native.Nat.{ℕ, suc, ◌+◌, ◌-◌, ◌*◌, ◌≤◌, ◌<◌}
 use native.Mathlib.Nat.{mul_assoc, mul-one, one-mul, mul-le-mul_left}
-use native.Mathlib.Decide.{dec_lt}
 use native.Mathlib.Numerals.{add-one}
 use native.Mathlib.Omega.{arith}
-use lib.Dec.{leb, ltb}
+use lib.Dec.{ltb}
 use lib.ListN.{length, take, drop, length-drop, take-append-drop}
 use lib.Seq.{take-suc, drop-cons, get_or-drop}
-use borrow.Author.Tests.{ltb-false, lt-ltb, le-ltb, le-leb, lt-leb, not-true}
+use borrow.Author.Tests.{ltb-false, not-true}
 use Rattle.lists.specs.Places.{at}
 use Rattle.lists.proofs.Tests.{every-at}
 use Rattle.plan.specs.Numbers.{product, bad_radix, radices_fit}
@@ -24,17 +22,6 @@ use Rattle.plan.specs.Numbers.{product, bad_radix, radices_fit}
 pub neither : (a b : Bool) → (a || b) ≡ false → (a ≡ false) × (b ≡ false)
 neither true b h = absurd (true≢false h)
 neither false b h = (refl, h)
-
--- what is not false is true
-pub decided : (b : Bool) → (b ≡ false → ⊥) → b ≡ true
-decided true h = refl
-decided false h = absurd (h refl)
-
-pub at_most : (a b : ℕ) → leb a b ≡ not (ltb b a)
-at_most a b = elim (dec_lt b a) [
-  | yes l ↦ lt-leb a b l ∙ ap not (sym (lt-ltb b a l))
-  | no h ↦ let l : a ≤ b = omega arith in le-leb a b l ∙ ap not (sym (le-ltb b a l))
-]
 
 pub radix-facts : (p r : ℕ) → bad_radix p r ≡ false → (2 ≤ r) × (r ≤ p)
 unfolding bad_radix

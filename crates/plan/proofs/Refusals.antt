@@ -4,6 +4,7 @@
 --     first-refused, first-passed           the same by the first list's refusal
 --     NoneMet, none-met                     where a list refuses nothing, none of its causes is met
 --     result-refused                        a refusal leaves what is lent as it was
+--     number-positive                       no refusal has the number 0
 --     answer-refuses, answer-gives, refused-answer, given-answer, number-answer       an answer by its refusal, and back
 -- Assumes nothing.
 use mathlib.Core.Path.{◌≡◌, refl, sym, ap, ◌∙◌}
@@ -11,7 +12,9 @@ use mathlib.Core.Bool.{Bool, true, false, cond}
 use mathlib.Core.List.{List, [], ◌∷◌, ◌++◌}
 use Prim.Native.Nat.{ℕ, zero, suc, ◌<◌}
 use native.Mathlib.Omega.{arith}
-use Rattle.plan.specs.Causes.{first, leaves, gives, refuses, answer, number_of}
+use Rattle.plan.specs.Causes.{first, leaves, gives, refuses, answer, number_of, number}
+use Rattle.plan.specs.declared.refusal.Refusal.{Refusal}
+use Rattle.plan.specs.declared.refusal.Refusal.TheVariants.{Prime, Radix, Range, Length, Residue, Unreduced, Entry, Value, Contradiction, Room, Step, Digit, Line, Columns, Foreign, Records, Unlisted}
 
 -- the first refusal of two, each 0 where there is none
 abbrev pub or_else : ℕ → ℕ → ℕ
@@ -91,3 +94,25 @@ given-answer F vs e = ap (λ (j : ℕ). answer j vs) (sym e)
 pub number-answer : (k : ℕ) (vs : List ℕ) → number_of (answer k vs) ≡ k
 number-answer zero vs = refl
 number-answer (suc k) vs = refl
+
+-- no refusal has the number 0
+pub number-positive : (r : Refusal) → 0 < number r
+number-positive r = elim r as (λ k. 0 < number k) [
+  | Prime ↦ omega arith
+  | Radix ↦ omega arith
+  | Range ↦ omega arith
+  | Length ↦ omega arith
+  | Residue ↦ omega arith
+  | Unreduced ↦ omega arith
+  | Entry ↦ omega arith
+  | Value ↦ omega arith
+  | Contradiction ↦ omega arith
+  | Room ↦ omega arith
+  | Step ↦ omega arith
+  | Digit ↦ omega arith
+  | Line ↦ omega arith
+  | Columns ↦ omega arith
+  | Foreign ↦ omega arith
+  | Records ↦ omega arith
+  | Unlisted ↦ omega arith
+]

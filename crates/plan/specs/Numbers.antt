@@ -10,17 +10,16 @@
 --     radix_causes p R           those of the radices by themselves, as a text tests them
 --     plan p s n m t             the plan of these numbers
 --     numbers_of P               the plan's five numbers
---     answer_of a                01's number and values for each case of the constructor's answer: the plan's numbers, or the refusal's
+--     answer_of a                01's number and values for what the constructor answers: the plan's numbers, or the refusal's
 --     checked p s n m t R        what the constructor answers
 --     Within P                   the plan's numbers meet none of causes 1 to 3, limit by limit
 --     Radices P R                the plan's radices: n of them, which meet neither of causes 2 and 3
-use Rattle.std.specs.Prelude.{◌≡◌, Bool, true, not, ◌||◌, List, [], ◌∷◌, ℕ, ◌+◌, ◌*◌, ◌≤◌, ltb, length}
+use Rattle.std.specs.Prelude.{◌≡◌, Bool, true, not, ◌||◌, List, [], ◌∷◌, ℕ, ◌+◌, ◌*◌, ◌≤◌, ltb, length, Result}
 use Rattle.lists.specs.Places.{every, at}
 use Rattle.field.specs.Primes.{odd_prime}
-use Rattle.plan.specs.Causes.{first, Answer, gives, refuses, answer}
+use Rattle.plan.specs.Causes.{first, Answer, answer, answer_with}
 use Rattle.plan.specs.declared.numbers.Plan.{Plan}
-use Rattle.plan.specs.declared.numbers.Checked.{Checked}
-use Rattle.plan.specs.declared.numbers.Checked.TheVariants.{Accepted, Refused}
+use Rattle.plan.specs.declared.refusal.Refusal.{Refusal}
 
 abbrev pub variables : Plan → ℕ
 variables P = P.n + P.m
@@ -59,9 +58,8 @@ plan p s n m t = record { p = p; s = s; n = n; m = m; t = t }
 abbrev pub numbers_of : Plan → List ℕ
 numbers_of P = P.p ∷ P.s ∷ P.n ∷ P.m ∷ P.t ∷ []
 
-unfoldable pub answer_of : Checked → Answer
-answer_of (Accepted P) = gives (numbers_of P)
-answer_of (Refused k) = refuses k
+abbrev pub answer_of : Result Plan Refusal → Answer
+answer_of a = answer_with numbers_of a
 
 unfoldable pub checked : ℕ → ℕ → ℕ → ℕ → ℕ → List ℕ → Answer
 checked p s n m t R = answer (first (number_causes p s n m t R)) (numbers_of (plan p s n m t))

@@ -3,9 +3,11 @@ ghost use Rattle.std.specs.Prelude.{◌≡◌, not};
 ghost use Rattle.plan.specs.Numbers as specs;
 
 use crate::radices::{product, radices_fit, radix_fits};
+use crate::refusal::Refusal;
 
 // The numbers of a plan that meets none of causes 1 to 3: the prime, the bound of table values, the digits, the links and the products.
-// The radices stay with the caller, like the other parts.
+// The radices stay with the caller, like the other parts. (Its limits, `Within`, are no ghost field: `plan` and `given`, of which the contracts
+// of the calls speak, are of any five numbers.)
 #[derive(Clone, Copy)]
 pub struct Plan {
     pub p: u8,
@@ -15,33 +17,20 @@ pub struct Plan {
     pub t: usize,
 }
 
-// What the constructor answers: the plan, or the number of the refusal.
-#[derive(Clone, Copy)]
-pub enum Checked {
-    Accepted(Plan),
-    Refused(u8),
-}
-
 // Whether n, L, t and C are in range. No number is too large to ask: each sum and product is made only where it fits.
+#[tactic(auto, unfolding(crate::specs::Numbers::out_of_range))]
 fn in_range(n: usize, m: usize, t: usize) -> bool
     ensures { result ≡ not (specs.out_of_range n m t) }
 {
-    if n < 1 {
-        return false;
-    }
-    if Plan::VARIABLES < n {
-        return false;
-    }
-    if Plan::VARIABLES - n < m {
-        return false;
-    }
-    if Plan::PRODUCTS < t {
-        return false;
-    }
-    (t + 1) * (n + m) <= Plan::COLUMNS
+    1 <= n
+        && n <= Plan::VARIABLES
+        && m <= Plan::VARIABLES - n
+        && t <= Plan::PRODUCTS
+        && (t + 1) * (n + m) <= Plan::COLUMNS
 }
 
 impl Plan {
+    // An array for what a plan has is as long as the largest plan needs it, and its first places count: nothing is allocated.
     // entries, the product of the radices, at most
     pub const ENTRIES: usize = 4096;
     // L at most
@@ -52,26 +41,29 @@ impl Plan {
     pub const COLUMNS: usize = 1024;
 
     // Causes 1 to 3, in that order.
-    pub fn new(p: usize, s: usize, n: usize, m: usize, t: usize, radices: &[u8]) -> Checked
+    #[tactic(auto, unfolding(crate::specs::Numbers::checked))]
+    pub fn new(
+        p: usize,
+        s: usize,
+        n: usize,
+        m: usize,
+        t: usize,
+        radices: &[u8],
+    ) -> Result<Plan, Refusal>
         ensures { specs.answer_of result ≡ specs.checked p s n m t radices.now }
     {
         if !field::is_odd_prime(p) {
-            return Checked::Refused(1);
+            return Err(Refusal::Prime);
         }
-        if !radix_fits(s, p) {
-            return Checked::Refused(2);
+        let prime = p as u8;
+        if !radix_fits(s, p) || !radices_fit(radices, prime) {
+            return Err(Refusal::Radix);
         }
-        if !radices_fit(radices, p as u8) {
-            return Checked::Refused(2);
+        if !in_range(n, m, t) || Plan::ENTRIES < product(radices) {
+            return Err(Refusal::Range);
         }
-        if !in_range(n, m, t) {
-            return Checked::Refused(3);
-        }
-        if Plan::ENTRIES < product(radices) {
-            return Checked::Refused(3);
-        }
-        Checked::Accepted(Plan {
-            p: p as u8,
+        Ok(Plan {
+            p: prime,
             s: s as u8,
             n,
             m,

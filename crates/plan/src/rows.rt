@@ -3,25 +3,24 @@ ghost use Rattle.std.specs.Prelude.{◌≡◌, ◌+◌, ◌*◌, ◌%◌, ◌≤
 ghost use Rattle.lists.specs.Places.{tab, at};
 ghost use Rattle.field.specs.Residues.{Modulus, Residues};
 ghost use Rattle.field.specs.Rows.{dot};
-ghost use Rattle.plan.specs.Numbers.{Within, Radices, variables, columns};
-ghost use Rattle.plan.specs.Parts.{Lent, lend};
+ghost use Rattle.plan.specs.Numbers.{variables, columns, product};
+ghost use Rattle.plan.specs.Lending.{whole};
 ghost use Rattle.plan.specs.Rows as specs;
 
+use crate::lending::CheckedPlan;
 use crate::numbers::Plan;
 
 // The digits of an entry, the last and least significant first: `rest` is the entry without the digits that are written.
-fn fill_digits(plan: Plan, radices: &[u8], entry: usize, x: &mut [u8])
-    requires radices { Radices plan radices.now }
-    requires x_len { length x.old ≡ plan.n }
-    ensures { x.new ≡ tab plan.n (specs.digit radices.now entry) }
+fn fill_digits(plan: &CheckedPlan, entry: usize, x: &mut [u8])
+    requires { length x.old ≡ plan.now.numbers.n }
+    ensures { x.new ≡ tab plan.now.numbers.n (specs.digit plan.now.radices.now entry) }
 {
+    let radices = plan.radices;
     let mut rest = entry;
-    let mut j = plan.n;
-    while 0 < j {
-        j -= 1;
+    for j in (0..radices.len()).rev() {
         let r = radices[j] as usize;
         x[j] = (rest % r) as u8;
-        rest = rest / r;
+        rest /= r;
     }
 }
 
@@ -37,27 +36,18 @@ fn link(weights: &[u8], table: &[u8], x: &[u8], p: u8) -> u8
 }
 
 // The L variables of an entry: its digits, then link after link. `begin` is where link k's weights begin.
-fn fill_variables(
-    plan: Plan,
-    radices: &[u8],
-    weights: &[u8],
-    tables: &[u8],
-    d: &[u8],
-    entry: usize,
-    x: &mut [u8],
-)
-    requires within { Within plan }
-    requires lent { Lent (lend plan radices.now weights.now tables.now d.now) }
-    requires x_len { length x.old ≡ variables plan }
-    ensures { x.new ≡ specs.values (lend plan radices.now weights.now tables.now d.now) entry }
+fn fill_variables(plan: &CheckedPlan, entry: usize, x: &mut [u8])
+    requires { length x.old ≡ variables plan.now.numbers }
+    ensures { x.new ≡ specs.values (whole plan.now) entry }
 {
-    let n = plan.n;
-    let p = plan.p;
+    let n = plan.numbers.n;
+    let p = plan.numbers.p;
     let size = p as usize;
-    fill_digits(plan, radices, entry, &mut x[..n]);
+    fill_digits(plan, entry, &mut x[..n]);
+    let weights = plan.weights;
+    let tables = plan.tables;
     let mut begin: usize = 0;
-    let mut k: usize = 0;
-    while k < plan.m {
+    for k in 0..plan.numbers.m {
         let place = n + k;
         let end = begin + place;
         let table = k * size;
@@ -70,50 +60,60 @@ fn fill_variables(
         );
         x[place] = v;
         begin = end;
-        k += 1;
     }
 }
 
 // The blocks of a row over its variables: one pass for each, with the block's weighted sum reduced once.
-fn fill_blocks(plan: Plan, d: &[u8], x: &[u8], row: &mut [u8])
-    requires within { Within plan }
-    requires d_len { length d.now ≡ plan.t * variables plan }
-    requires x_len { (length x.now ≡ variables plan) × (Residues plan.p x.now) }
-    requires row_len { length row.old ≡ columns plan }
-    ensures { row.new ≡ tab (columns plan) (specs.row_place plan d.now x.now) }
+fn fill_blocks(plan: &CheckedPlan, x: &[u8], row: &mut [u8])
+    requires x_len { (length x.now ≡ variables plan.now.numbers) × (Residues plan.now.numbers.p x.now) }
+    requires row_len { length row.old ≡ columns plan.now.numbers }
+    ensures { row.new ≡ tab (columns plan.now.numbers) (specs.row_place plan.now.numbers plan.now.products.now x.now) }
 {
-    let p = plan.p;
+    let p = plan.numbers.p;
     let l = plan.variables();
-    let mut from: usize = 0;
-    let mut b: usize = 0;
-    while b < plan.t {
+    let d = plan.products;
+    let t = plan.numbers.t;
+    for b in 0..t {
+        let from = b * l;
         let end = from + l;
         let g = field::dot(&d[from..end], x, p);
         field::set_multiple(&mut row[from..end], x, g, p);
-        from = end;
-        b += 1;
     }
+    let from = t * l;
     let end = from + l;
     field::set_multiple(&mut row[from..end], x, 1, p);
 }
 
-// Row `entry` of a checked plan with its parts as lent.
-pub fn fill_row(
-    plan: Plan,
-    radices: &[u8],
-    weights: &[u8],
-    tables: &[u8],
-    d: &[u8],
-    entry: usize,
-    row: &mut [u8],
-)
-    requires within { Within plan }
-    requires lent { Lent (lend plan radices.now weights.now tables.now d.now) }
-    requires row_len { length row.old ≡ columns plan }
-    ensures { row.new ≡ specs.row (lend plan radices.now weights.now tables.now d.now) entry }
-{
-    let mut x = [0u8; Plan::VARIABLES];
-    let l = plan.variables();
-    fill_variables(plan, radices, weights, tables, d, entry, &mut x[..l]);
-    fill_blocks(plan, d, &x[..l], row);
+impl CheckedPlan<'_> {
+    // L
+    pub fn variables(&self) -> usize
+        ensures { result ≡ variables self.now.numbers }
+    {
+        self.numbers.variables()
+    }
+
+    // C
+    pub fn columns(&self) -> usize
+        ensures { result ≡ columns self.now.numbers }
+    {
+        self.numbers.columns()
+    }
+
+    // The number of entries.
+    pub fn entries(&self) -> usize
+        ensures { result ≡ product self.now.radices.now }
+    {
+        self.numbers.entries(self.radices)
+    }
+
+    // Row `entry`.
+    pub fn fill_row(&self, entry: usize, row: &mut [u8])
+        requires { length row.old ≡ columns self.now.numbers }
+        ensures { row.new ≡ specs.row (whole self.now) entry }
+    {
+        let mut x = [0u8; Plan::VARIABLES];
+        let l = self.variables();
+        fill_variables(self, entry, &mut x[..l]);
+        fill_blocks(self, &x[..l], row);
+    }
 }

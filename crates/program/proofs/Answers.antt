@@ -1,29 +1,31 @@
--- What is known of a writing that is not refused, and what the writer leaves and hands back.
+-- What is known of a writing that is not refused, and what the writer hands back.
 --     writing-fits      where a writing's own causes are not met, the steps fit
 --     digit-residues    digits below their radices are residues
---     written-refused, written-done, handed-refused, handed-done       what the writer leaves and hands back
+--     handed-part, handed-length       what the writer hands back, and its length
 -- Assumes nothing.
 use mathlib.Core.Path.{◌≡◌, sym, ap, ◌∙◌}
 use mathlib.Core.Bool.{true}
 use mathlib.Core.List.{List, []}
-use Prim.Native.Nat.{ℕ, ◌+◌, ◌*◌, ◌≤◌, ◌<◌}
+use Prim.Native.Nat.{ℕ, ◌+◌, ◌*◌, ◌≤◌}
 use native.Mathlib.Decide.{dec_lt}
-use native.Mathlib.Nat.{pos_of_ne-zero}
 use native.Mathlib.Omega.{arith}
 use lib.Dec.{ltb}
 use lib.ListN.{length, take, drop}
-use lib.Seq.{take_at}
+use lib.Seq.{take_at, length-take-le}
 use borrow.Author.Tests.{ltb-true, ltb-false}
-use Rattle.lists.specs.Places.{at, placed}
+use Rattle.lists.specs.Places.{at}
 use Rattle.lists.proofs.Tests.{every-at}
 use Rattle.lists.proofs.Parts.{at-past}
 use Rattle.field.specs.Residues.{Residues}
-use Rattle.plan.specs.Causes.{first}
+use Rattle.std.specs.Prelude.{Result, Ok, Err, IfOk}
+use Rattle.std.specs.Result.{result_unwrap_or}
+use Rattle.plan.specs.Causes.{first, refusal_of, number}
+use Rattle.plan.specs.declared.refusal.Refusal.{Refusal}
 use Rattle.plan.specs.Numbers.{Within, Radices}
 use Rattle.plan.specs.declared.numbers.Plan.{Plan}
 use Rattle.plan.proofs.Bounds.{prime-low}
 use Rattle.plan.proofs.Radix.{radices-at}
-use Rattle.plan.proofs.Refusals.{none-met, leaves-refused}
+use Rattle.plan.proofs.Refusals.{none-met, leaves-refused, number-positive}
 use Rattle.program.specs.Layout.{layout, step_count}
 use Rattle.program.specs.Calls.{writing_causes, digits_fit, written, handed}
 use Rattle.program.proofs.Shape.{layout-length}
@@ -40,23 +42,25 @@ digit-residues P R digits within radices size h i = elim (dec_lt i (length digit
   | no l ↦ rw (at-past digits i (omega arith)) (omega (arith, prime-low within))
 ]
 
-module _ (P : Plan) (w d β : List ℕ) where
-  pub written-refused : (k : ℕ) (steps : List ℕ) → 0 < k → steps ≡ written k P w d β steps
-  unfolding written
-  written-refused k steps pos = sym (leaves-refused k _ steps pos)
-
-  pub written-done : (steps out : List ℕ) → out ≡ placed steps 0 (layout P w d β) → out ≡ written 0 P w d β steps
-  unfolding written
-  written-done steps out e = e
-
-  pub handed-refused : (j : ℕ) → (j ≡ 0 → ⊥) → [] ≡ handed j P w d β
-  unfolding handed
-  handed-refused j h = sym (leaves-refused j _ [] (pos_of_ne-zero h))
-
-  -- the first part of what was written
-  pub handed-done : (r j k : ℕ) (steps out : List ℕ) → r ≡ 0 → r ≡ j → out ≡ written r P w d β steps → k ≡ 4 * step_count P → take k out ≡ handed j P w d β
+module _ (P : Plan) (w D β : List ℕ) where
+  -- the part that is handed back, from the length that the writing answers: d is what stands for it in a refusal
+  pub handed-part : (a : Result ℕ Refusal) (d k j : ℕ) (steps out : List ℕ) → k ≡ result_unwrap_or a d → d ≡ 0 → refusal_of a ≡ j
+      → IfOk a (λ n. n ≡ 4 * step_count P) → out ≡ written (refusal_of a) P w D β steps → take k out ≡ handed j P w D β
   unfolding handed written
-  handed-done r j k steps out zero-r same e size =
-      ap (take k) (e ∙ ap (λ (i : ℕ). written i P w d β steps) zero-r)
-      ∙ take_at (layout P w d β) (drop (0 + length (layout P w d β)) steps) k (layout-length P w d β ∙ sym size)
-      ∙ ap (λ (i : ℕ). handed i P w d β) (sym zero-r ∙ same)
+  handed-part (Ok n) d k j steps out end none same size e =
+      ap (take k) e
+      ∙ take_at (layout P w D β) (drop (0 + length (layout P w D β)) steps) k (layout-length P w D β ∙ sym size ∙ sym end)
+      ∙ ap (λ (i : ℕ). handed i P w D β) same
+  handed-part (Err r) d k j steps out end none same size e =
+      ap (λ (i : ℕ). take i out) (end ∙ none)
+      ∙ sym (leaves-refused (number r) _ [] (number-positive r))
+      ∙ ap (λ (i : ℕ). handed i P w D β) same
+
+  pub handed-length : (a : Result ℕ Refusal) (d k : ℕ) (steps out : List ℕ) → k ≡ result_unwrap_or a d → d ≤ length out
+      → IfOk a (λ n. n ≡ 4 * step_count P) → out ≡ written (refusal_of a) P w D β steps → k ≡ length (take k out)
+  unfolding written
+  handed-length (Ok n) d k steps out end room size e =
+      let all = layout-length P w D β in
+      let part = ap (take k) e ∙ take_at (layout P w D β) (drop (0 + length (layout P w D β)) steps) k (all ∙ sym size ∙ sym end) in
+      end ∙ size ∙ sym all ∙ sym (ap length part)
+  handed-length (Err r) d k steps out end room size e = sym (length-take-le k out (rw end room))

@@ -8,19 +8,20 @@
 --     run_own steps digits G  the run: its own causes, 11 and 12; `run_causes G steps digits`: all that it can meet, 1 2 3 4 5 11 12
 --     written k P ..          the step slice after the writer: the layout and the rest as it was, or, refusing, all as it was
 --     handed k P ..           what the writer hands back: the layout, or, refusing, nothing
---     answer_of a             01's number and values for each case of the run's answer: y and the number of bootstraps, or the refusal's number
+--     told r                  the values of what the run answers: y and the number of bootstraps
+--     answer_of a             01's number and values for the run's answer: those values, or the refusal's number
 --     writer_hands, run_answer     what `write` hands back, and what `run` answers
-use Rattle.std.specs.Prelude.{Bool, not, List, [], ◌∷◌, ℕ, ◌*◌, ltb, length}
+use Rattle.std.specs.Prelude.{Bool, not, List, [], ◌∷◌, ℕ, ◌*◌, ltb, length, Result}
 use Rattle.lists.specs.Places.{every, at, placed}
 use Rattle.field.specs.Rows.{all_below}
 use Rattle.plan.specs.declared.numbers.Plan.{Plan}
 use Rattle.plan.specs.declared.admission.Own.TheVariants.{Row, Digits}
 use Rattle.plan.specs.Parts.{Given, call_causes}
-use Rattle.plan.specs.Causes.{first, leaves, Answer, gives, refuses, answer}
+use Rattle.plan.specs.Causes.{first, leaves, Answer, answer, answer_with}
 use Rattle.program.specs.Steps.{well_formed, output, bootstraps}
 use Rattle.program.specs.Layout.{layout, step_count}
 use Rattle.program.specs.declared.running.Ran.{Ran}
-use Rattle.program.specs.declared.running.Ran.TheVariants.{Done, Refused}
+use Rattle.plan.specs.declared.refusal.Refusal.{Refusal}
 
 -- 5 again, for "a given β not below p"; 10, "step slice shorter than 4 times the step count"
 abbrev pub writing_causes : Plan → List ℕ → ℕ → List (ℕ × Bool)
@@ -50,9 +51,11 @@ written k P w d β steps = leaves k (placed steps 0 (layout P w d β)) steps
 unfoldable pub handed : ℕ → Plan → List ℕ → List ℕ → List ℕ → List ℕ
 handed k P w d β = leaves k (layout P w d β) []
 
-abbrev pub answer_of : Ran → Answer
-answer_of (Done y count) = gives (y ∷ count ∷ [])
-answer_of (Refused k) = refuses k
+abbrev pub told : Ran → List ℕ
+told r = r.y ∷ r.bootstraps ∷ []
+
+abbrev pub answer_of : Result Ran Refusal → Answer
+answer_of a = answer_with told a
 
 -- the calls as a whole, as their contracts and demand 3 say them
 abbrev pub writer_hands : Given → List ℕ → List ℕ → List ℕ

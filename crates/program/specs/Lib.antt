@@ -7,3 +7,4 @@ pub mod Layout
 pub mod Calls
 -- What only serves the code: contracts of inner functions cite it, and no call's contract does.
 pub mod Placed
+pub mod Reading

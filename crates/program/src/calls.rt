@@ -1,166 +1,69 @@
 // The entry points: any numbers and lists are taken.
-ghost use Rattle.std.specs.Prelude.{◌≡◌};
-ghost use Rattle.plan.specs.Causes.{first};
-ghost use Rattle.plan.specs.Numbers.{Within, plan};
-ghost use Rattle.plan.specs.Parts.{given};
+ghost use Rattle.std.specs.Prelude.{◌≡◌, ◌*◌, IfOk};
+ghost use Rattle.plan.specs.Causes.{first, refusal_of};
+ghost use Rattle.plan.specs.Lending.{given_of};
+ghost use Rattle.program.specs.Layout.{step_count};
 ghost use Rattle.program.specs.Calls as specs;
 
 use crate::running::{Ran, digits_fit, run_steps, well_formed};
 use crate::writing::{put_program, step_count};
-use plan::{Checked, Own, Plan, admit};
+use plan::{CheckedPlan, LentPlan, Own, Refusal};
 
-// The writing's own refusal for an admitted plan: 5 for β or 10, else 0. `room` is the step slice's length.
-fn writing_refusal(plan: Plan, beta: &[u8], room: usize) -> u8
-    requires { Within plan }
-    ensures { result ≡ first (specs.writing_causes plan beta.now room) }
+// The writing's own causes, 5 for β and 10. `room` is the step slice's length.
+fn check_room(plan: &CheckedPlan, beta: &[u8], room: usize) -> Result<(), Refusal>
+    ensures { refusal_of result ≡ first (specs.writing_causes plan.now.numbers beta.now room) }
 {
-    if !field::all_below(beta, plan.p) {
-        return 5;
+    if !field::all_below(beta, plan.numbers.p) {
+        return Err(Refusal::Residue);
     }
-    if room < 4 * step_count(plan) {
-        return 10;
+    if room < 4 * step_count(plan.numbers) {
+        return Err(Refusal::Room);
     }
-    0
+    Ok(())
 }
 
-// Whether `write` would accept: its refusal, 0 where it would, and nothing is written.
-pub fn check_writing(
-    p: usize,
-    s: usize,
-    n: usize,
-    m: usize,
-    t: usize,
-    radices: &[u8],
-    weights: &[u8],
-    tables: &[u8],
-    d: &[u8],
-    beta: &[u8],
-    steps: &[u16],
-) -> u8
-    ensures { result ≡ first (specs.write_causes (given p s n m t radices.now weights.now tables.now d.now) beta.now steps.now) }
+// Whether `write` would accept, and nothing is written.
+pub fn check_writing(lent: &LentPlan, beta: &[u8], steps: &[u16]) -> Result<(), Refusal>
+    ensures { refusal_of result ≡ first (specs.write_causes (given_of lent.now) beta.now steps.now) }
 {
-    match admit(
-        p,
-        s,
-        n,
-        m,
-        t,
-        radices,
-        weights,
-        tables,
-        d,
-        Own::Row(beta.len()),
-    ) {
-        Checked::Refused(k) => k,
-        Checked::Accepted(plan) => writing_refusal(plan, beta, steps.len()),
-    }
+    let plan = lent.admit(Own::Row(beta.len()))?;
+    check_room(&plan, beta, steps.len())
 }
 
-// Writes the program at the front of `steps`: causes 1 2 3 4 5 10. The rest of the slice, and all of it under a refusal, keeps its bytes.
-pub fn write_into(
-    p: usize,
-    s: usize,
-    n: usize,
-    m: usize,
-    t: usize,
-    radices: &[u8],
-    weights: &[u8],
-    tables: &[u8],
-    d: &[u8],
-    beta: &[u8],
-    steps: &mut [u16],
-) -> u8
-    ensures value { result ≡ first (specs.write_causes (given p s n m t radices.now weights.now tables.now d.now) beta.now steps.old) }
-    ensures steps_after { steps.new ≡ specs.written result (plan p s n m t) weights.now d.now beta.now steps.old }
+// Writes the program at the front of `steps` and answers its length, 4 times the step count: causes 1 2 3 4 5 10. The rest of the slice,
+// and all of it under a refusal, keeps its bytes.
+#[tactic(auto, unfolding(crate::specs::Calls::written))]
+pub fn write_into(lent: &LentPlan, beta: &[u8], steps: &mut [u16]) -> Result<usize, Refusal>
+    ensures refusal { refusal_of result ≡ first (specs.write_causes (given_of lent.now) beta.now steps.old) }
+    ensures steps_after { steps.new ≡ specs.written (refusal_of result) (given_of lent.now).numbers lent.now.weights.now lent.now.products.now beta.now steps.old }
+    ensures length { IfOk result (λ k. k ≡ 4 * step_count (given_of lent.now).numbers) }
 {
-    match admit(
-        p,
-        s,
-        n,
-        m,
-        t,
-        radices,
-        weights,
-        tables,
-        d,
-        Own::Row(beta.len()),
-    ) {
-        Checked::Refused(k) => k,
-        Checked::Accepted(plan) => {
-            let k = writing_refusal(plan, beta, steps.len());
-            if k != 0 {
-                return k;
-            }
-            put_program(plan, weights, d, beta, steps);
-            0
-        }
-    }
+    let plan = lent.admit(Own::Row(beta.len()))?;
+    check_room(&plan, beta, steps.len())?;
+    put_program(plan.numbers, plan.weights, plan.products, beta, steps);
+    Ok(4 * step_count(plan.numbers))
 }
 
-// Writes the program and hands back the filled part, of exactly 4 times the step count; the empty part where `check_writing` gives a number.
-pub fn write<'a>(
-    p: usize,
-    s: usize,
-    n: usize,
-    m: usize,
-    t: usize,
-    radices: &[u8],
-    weights: &[u8],
-    tables: &[u8],
-    d: &[u8],
-    beta: &[u8],
-    steps: &'a mut [u16],
-) -> &'a mut [u16]
-    ensures result_value { result.now ≡ specs.writer_hands (given p s n m t radices.now weights.now tables.now d.now) beta.now steps.old }
+// Writes the program and hands back the filled part, of exactly 4 times the step count; the empty part where `check_writing` refuses. (It cannot
+// fail, since 01 asks for the returned part; `write_into` says why it refuses.)
+pub fn write<'a>(lent: &LentPlan, beta: &[u8], steps: &'a mut [u16]) -> &'a mut [u16]
+    ensures result_value { result.now ≡ specs.writer_hands (given_of lent.now) beta.now steps.old }
     ensures ref_ptr_value { result.ref_ptr ≡ steps.entry.ref_ptr }
 {
-    if write_into(p, s, n, m, t, radices, weights, tables, d, beta, steps) != 0 {
-        return &mut steps[..0];
-    }
-    // the plan was accepted, so p and s fit
-    let p = p as u8;
-    let s = s as u8;
-    let end = 4 * step_count(Plan { p, s, n, m, t });
+    let end = write_into(lent, beta, steps).unwrap_or(0);
     &mut steps[..end]
 }
 
 // Runs a list of steps on n digits: causes 1 2 3 4 5 11 12. The whole list is tested before the first step.
-pub fn run(
-    p: usize,
-    s: usize,
-    n: usize,
-    m: usize,
-    t: usize,
-    radices: &[u8],
-    weights: &[u8],
-    tables: &[u8],
-    d: &[u8],
-    steps: &[u16],
-    digits: &[u8],
-) -> Ran
-    ensures { specs.answer_of result ≡ specs.run_answer (given p s n m t radices.now weights.now tables.now d.now) steps.now digits.now }
+pub fn run(lent: &LentPlan, steps: &[u16], digits: &[u8]) -> Result<Ran, Refusal>
+    ensures { specs.answer_of result ≡ specs.run_answer (given_of lent.now) steps.now digits.now }
 {
-    match admit(
-        p,
-        s,
-        n,
-        m,
-        t,
-        radices,
-        weights,
-        tables,
-        d,
-        Own::Digits(digits.len()),
-    ) {
-        Checked::Refused(k) => Ran::Refused(k),
-        Checked::Accepted(plan) => {
-            if !well_formed(plan, steps) {
-                return Ran::Refused(11);
-            }
-            if !digits_fit(radices, digits) {
-                return Ran::Refused(12);
-            }
-            run_steps(plan, tables, steps, digits)
-        }
+    let plan = lent.admit(Own::Digits(digits.len()))?;
+    if !well_formed(plan.numbers, steps) {
+        return Err(Refusal::Step);
     }
+    if !digits_fit(plan.radices, digits) {
+        return Err(Refusal::Digit);
+    }
+    Ok(run_steps(&plan, steps, digits))
 }

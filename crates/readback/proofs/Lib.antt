@@ -3,14 +3,13 @@
 pub mod Cases
 pub mod Places
 pub mod Recovering
-pub mod Arrays
 pub mod StepsBack
 pub mod Numerals
 pub mod NumberLines
 pub mod StepLines
 pub mod Texts
-pub mod Figures
 pub mod Keeping
 pub mod Scanlines
+pub mod LineCuts
 pub mod ListingTests
 pub mod ListingsBack

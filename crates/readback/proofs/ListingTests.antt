@@ -13,6 +13,7 @@ use Prim.Native.Nat.{ℕ, zero, suc, ◌+◌, ◌*◌, ◌≤◌, ◌<◌}
 use native.Mathlib.Omega.{arith}
 use lib.ListN.{length}
 use borrow.Author.Tests.{ne_eqb}
+use Rattle.std.specs.Prelude.{Ok}
 use Rattle.lists.specs.Places.{same}
 use Rattle.lists.proofs.Tests.{refute, both, both_true}
 use Rattle.lists.proofs.Sameness.{same_refl, same_true}
@@ -22,7 +23,8 @@ use Rattle.field.proofs.Ranges.{residues-of, below_of}
 use Rattle.plan.specs.declared.numbers.Plan.{Plan}
 use Rattle.plan.specs.Numbers.{Within}
 use Rattle.plan.specs.declared.admission.Own.TheVariants.{Row}
-use Rattle.plan.specs.Causes.{first, Answer}
+use Rattle.plan.specs.Causes.{first, Answer, refuses}
+use Rattle.plan.specs.declared.refusal.Refusal.TheVariants.{Line, Foreign}
 use Rattle.plan.specs.Parts.{Given, call_causes}
 use Rattle.plan.proofs.Bounds.{prime-low}
 use Rattle.plan.proofs.Refusals.{refused-answer}
@@ -33,8 +35,7 @@ use Rattle.listing.specs.Printed.{figures, listing}
 use Rattle.listing.proofs.Rooms.{small-steps}
 use Rattle.listing.proofs.NormLimit.{worst-limit}
 use Rattle.readback.specs.Recovery.{recovered, is_written}
-use Rattle.readback.specs.Listings.{malformed, steps_in, is_listing, answer_of, text_answer, text_left, listing_causes, listing_answer}
-use Rattle.readback.specs.declared.calls.Reread.TheVariants.{Read, Refused, RefusedAt}
+use Rattle.readback.specs.Listings.{malformed, steps_in, is_listing, refused_at, answer_of, text_answer, text_left, listing_causes, listing_answer}
 use Rattle.readback.specs.Scanned.{figures_in, Lost}
 use Rattle.readback.proofs.Texts.{shown, listing-shown, shown-fits, shown-figures, shown-steps, text-shown}
 
@@ -74,8 +75,8 @@ module _ (P : Plan) (within : Within P) (w d : List ℕ) (hw : Residues P.p w) (
         let back = printed-back found (residues b.0) text (same_true text (listing P w d found) b.1) in
         (b.0, back.2, back.1)
 
-    pub listing-lost : (steps : List ℕ) (count : ℕ) → 17228 ≤ length steps → Lost (steps_in text) steps count → is_listing P w d text ≡ false
-    listing-lost steps count large lost =
+    pub listing-lost : (steps : List ℕ) → 17228 ≤ length steps → Lost (steps_in text) steps → is_listing P w d text ≡ false
+    listing-lost steps large lost =
         refute (is_listing P w d text)
         (λ h.
         let parts = listing-parts h in
@@ -109,13 +110,13 @@ module _ (P : Plan) (within : Within P) (w d : List ℕ) (hw : Residues P.p w) (
 
 -- the answer, and what is left in β
 module _ (P : Plan) (w d text β : List ℕ) where
-  pub answer-malformed : (j : ℕ) → malformed text ≡ j → 0 < j → (answer_of (RefusedAt 13 j) ≡ text_answer P w d text) × (β ≡ text_left P w d text β)
+  pub answer-malformed : (j : ℕ) → malformed text ≡ j → 0 < j → (answer_of (refused_at Line j) ≡ text_answer P w d text) × (β ≡ text_left P w d text β)
   answer-malformed j e l = let other = ne_eqb j 0 (λ z. omega (arith, z, l)) in (rw (e, other), rw (e, other))
 
-  pub answer-refused : malformed text ≡ 0 → is_listing P w d text ≡ false → (answer_of (RefusedAt 15 1) ≡ text_answer P w d text) × (β ≡ text_left P w d text β)
+  pub answer-refused : malformed text ≡ 0 → is_listing P w d text ≡ false → (answer_of (refused_at Foreign 1) ≡ text_answer P w d text) × (β ≡ text_left P w d text β)
   answer-refused e f = (rw (e, f), rw (e, f))
 
-  pub answer-read : malformed text ≡ 0 → is_listing P w d text ≡ true → (answer_of Read ≡ text_answer P w d text) × (recovered P (steps_in text) ≡ text_left P w d text β)
+  pub answer-read : malformed text ≡ 0 → is_listing P w d text ≡ true → (answer_of (Ok tt) ≡ text_answer P w d text) × (recovered P (steps_in text) ≡ text_left P w d text β)
   answer-read e t = (rw (e, t), rw (e, t))
 
 -- a list of causes numbered 1 to n refuses with one of these numbers
@@ -132,7 +133,7 @@ first-most n (cause ∷ causes) h = by cause.1 h.0 (first-most n causes h.1)
     by false here later = later
 
 -- a plan that is not admitted is refused without a line
-pub answer-early : (G : Given) (text β : List ℕ) (k : ℕ) → k ≡ first (call_causes G (Row (length β)) (λ _. [])) → k ≡ first (listing_causes G text β) → 0 < k → answer_of (Refused k) ≡ listing_answer G text β
+pub answer-early : (G : Given) (text β : List ℕ) (k : ℕ) → k ≡ first (call_causes G (Row (length β)) (λ _. [])) → k ≡ first (listing_causes G text β) → 0 < k → (refuses k, []) ≡ listing_answer G text β
 unfolding call_causes
 answer-early G text β k early e pos =
     let few : k ≤ 5 = rw early (first-most 5 (call_causes G (Row (length β)) (λ _. [])) (omega arith)) in

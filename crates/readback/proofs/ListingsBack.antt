@@ -12,6 +12,7 @@ use Prim.Native.Nat.{ℕ}
 use native.Mathlib.Omega.{arith}
 use lib.ListN.{length}
 use borrow.Author.Tests.{eq-eqb, not-false}
+use Rattle.std.specs.Prelude.{Ok}
 use Rattle.lists.specs.Places.{same}
 use Rattle.lists.proofs.Tests.{both, both_true}
 use Rattle.lists.proofs.Sameness.{same_refl, same_true}
@@ -19,6 +20,7 @@ use Rattle.field.specs.Rows.{all_below}
 use Rattle.field.proofs.Ranges.{residues-of, below_of}
 use Rattle.plan.specs.declared.admission.Own.TheVariants.{Nothing, Row}
 use Rattle.plan.specs.Causes.{first, Answer, answer}
+use Rattle.plan.specs.declared.refusal.Refusal.TheVariants.{Foreign}
 use Rattle.plan.specs.Numbers.{columns}
 use Rattle.plan.specs.Parts.{Given, check_causes}
 use Rattle.plan.proofs.Bounds.{prime-low}
@@ -27,8 +29,7 @@ use Rattle.plan.proofs.Admitting.{Unrefused, unrefused, accepted-call}
 use Rattle.program.specs.Layout.{layout}
 use Rattle.listing.specs.Printed.{figures, listing}
 use Rattle.readback.specs.Recovery.{recovered}
-use Rattle.readback.specs.Listings.{malformed, steps_in, is_listing, listing_own, listing_causes, line_of, answer_of, listing_answer, listing_left, Listed}
-use Rattle.readback.specs.declared.calls.Reread.TheVariants.{Read, RefusedAt}
+use Rattle.readback.specs.Listings.{malformed, steps_in, is_listing, listing_own, listing_causes, line_of, refused_at, answer_of, listing_answer, listing_left, Listed}
 use Rattle.readback.specs.Scanned.{figures_in}
 use Rattle.readback.proofs.Places.{recovered-length, recovered-layout}
 use Rattle.readback.proofs.ListingTests.{printed-back}
@@ -67,15 +68,15 @@ module _ (G : Given) (accepted : first (check_causes G) ≡ 0) (text : List ℕ)
     call : first (listing_causes G text β₀) ≡ first (listing_own text G)
     call = accepted-call G accepted (Row (length β₀)) (listing_own text) (eq-eqb (length β₀) (columns G.numbers) room)
 
-    read_none : listing_answer G text β₀ ≡ answer_of Read → first (listing_causes G text β₀) ≡ 0
+    read_none : listing_answer G text β₀ ≡ answer_of (Ok tt) → first (listing_causes G text β₀) ≡ 0
     read_none e = (answer-gives _ [] [] (ap (λ (x : Answer × List ℕ). x.0) e)).0
 
-    passed : listing_answer G text β₀ ≡ answer_of Read → is_listing G.numbers G.weights G.products text ≡ true
+    passed : listing_answer G text β₀ ≡ answer_of (Ok tt) → is_listing G.numbers G.weights G.products text ≡ true
     passed e =
         let none = read_none e in
         not-false _ (none-met (listing_own text G) (omega arith) (sym call ∙ none)).1.0
 
-    pub listing-exactly : (listing_answer G text β₀ ≡ answer_of Read) ↔ ((β : List ℕ) × Listed G text β)
+    pub listing-exactly : (listing_answer G text β₀ ≡ answer_of (Ok tt)) ↔ ((β : List ℕ) × Listed G text β)
     listing-exactly = (
       (λ e. (recovered G.numbers (steps_in text), listed_of (passed e))),
       (λ x.
@@ -83,10 +84,10 @@ module _ (G : Given) (accepted : first (check_causes G) ≡ 0) (text : List ℕ)
           ap (λ (k : ℕ). (answer k [], line_of k text)) none),
     )
 
-    pub listing-refused : malformed text ≡ 0 → (((β : List ℕ) × Listed G text β) → ⊥) → listing_answer G text β₀ ≡ answer_of (RefusedAt 15 1)
+    pub listing-refused : malformed text ≡ 0 → (((β : List ℕ) × Listed G text β) → ⊥) → listing_answer G text β₀ ≡ answer_of (refused_at Foreign 1)
     listing-refused good none = by (is_listing G.numbers G.weights G.products text) refl
       where
-        by : (b : Bool) → is_listing G.numbers G.weights G.products text ≡ b → listing_answer G text β₀ ≡ answer_of (RefusedAt 15 1)
+        by : (b : Bool) → is_listing G.numbers G.weights G.products text ≡ b → listing_answer G text β₀ ≡ answer_of (refused_at Foreign 1)
         by true t = absurd (none (recovered G.numbers (steps_in text), listed_of t))
         by false t =
             let refused : first (listing_causes G text β₀) ≡ 15 = call ∙ rw (good, t) in
@@ -96,6 +97,6 @@ module _ (G : Given) (accepted : first (check_causes G) ≡ 0) (text : List ℕ)
       pub again : Listed G text left
       pub only : (β : List ℕ) → Listed G text β → β ≡ left
 
-    pub listing-again : listing_answer G text β₀ ≡ answer_of Read → Returned (listing_left G text β₀)
+    pub listing-again : listing_answer G text β₀ ≡ answer_of (Ok tt) → Returned (listing_left G text β₀)
     listing-again e =
         rw (read_none e) (record { again = listed_of (passed e); only = λ β h. sym (one β h) })

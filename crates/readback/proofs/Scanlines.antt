@@ -1,13 +1,14 @@
 -- The lines of a text from a place on, as the code reads them: each is missing, malformed, or as its place asks and followed by the others.
+--     refused                               the error that a `?` hands on
 --     line-missing, line-bad, line-good     the line at a place, and the first bad line from there on
 --     line-numbers                          the numbers of a line of steps, and those behind it
 --     Reached text i k at j                 the lines from line k on, at place i, have been read up to line j, at place at
---     reached-start, reached-end, reached-missing, reached-bad, reached-next      before the first, and what the next line says
---     Scanning text from steps at j count   the same of the lines of steps, with their numbers kept; `scanning-start`, `scanning-next`, `scanning-end`
+--     reached-start, reached-missing, reached-bad, reached-next      before the first, and what the next line says
+--     Scanning text from steps at j count   the same of the lines of steps, with their numbers kept; `scanning-next`, `scanning-end`
 --     head-start, head-good                 the first three lines, and all lines where they are as their places ask
 -- Assumes nothing.
 use mathlib.Core.Path.{◌≡◌, refl, sym, ap, ap₂, ◌∙◌}
-use mathlib.Core.Bool.{true, false}
+use mathlib.Core.Bool.{true, false, false≢true}
 use mathlib.Core.List.{List, [], ◌∷◌, ◌++◌, append_assoc, append-nil}
 use Prim.Native.Nat.{ℕ, ◌+◌, ◌≤◌, ◌<◌}
 use native.Mathlib.Numerals.{add-one}
@@ -15,15 +16,19 @@ use native.Mathlib.Decide.{dec_lt}
 use native.Mathlib.Omega.{arith}
 use lib.ListN.{length, drop}
 use borrow.Author.Tests.{lt-ltb, le-ltb, le-leb, ne_eqb}
+use Rattle.std.specs.Prelude.{Option, Some, Result, Ok, Err, IsErr, IsErrAnd}
 use Rattle.lines.specs.Lines.{cut_at, asks, numbers}
 use Rattle.lines.specs.Words.{front, piece, pieces_from}
-use Rattle.lines.proofs.WordLaws.{piece-past, piece-fits, pieces-past, pieces-all, pieces_step}
+use Rattle.lines.proofs.WordLaws.{piece-past, pieces-past, pieces-all, pieces_step}
 use Rattle.readback.specs.Listings.{line_fits, bad_line, step_numbers, malformed, steps_in}
 use Rattle.readback.specs.Scanned.{Kept, StepsScanned, Scanned}
-use Rattle.readback.specs.declared.scanning.Scan.{Scan}
-use Rattle.readback.specs.declared.scanning.Scan.TheVariants.{Malformed, Whole}
+use Rattle.readback.specs.declared.scanning.Malformed.{Malformed}
 use Rattle.readback.proofs.StepLines.{bad_more, bad-here, numbers_more, step_fits}
-use Rattle.readback.proofs.Keeping.{kept-none}
+
+-- what a `?` hands on
+pub refused : (r : Result (Option ℕ) Malformed) (bad : Malformed) → IsErr r × IsErrAnd r (λ e. e ≡ bad) → r ≡ Err bad
+refused (Ok x) bad h = absurd (false≢true h.0)
+refused (Err e) bad h = ap Err h.1
 
 module _ (text : List ℕ) (i end : ℕ) (e : end ≡ i + length (piece 10 text i)) where
   -- the line is the last piece
@@ -79,10 +84,6 @@ pub reached-start : (text : List ℕ) (i k : ℕ) → i ≤ length text → Reac
 reached-start text i k h = record { inside = h; decides = refl }
 
 module _ {text : List ℕ} {i k at j : ℕ} (r : Reached text i k at j) (end : ℕ) (e : end ≡ at + length (piece 10 text at)) where
-  -- a line that does not end at the text's end ends before it
-  pub reached-end : (end ≡ length text → ⊥) → end < length text
-  reached-end n = omega (arith, e, piece-fits 10 text at r.inside, n)
-
   pub reached-missing : end ≡ length text → (3 < j → at < length text) → bad_line k (pieces_from 10 text i) ≡ j
   reached-missing l some = r.decides ∙ line-missing text at end e j r.inside (omega (arith, l)) some
 
@@ -93,7 +94,7 @@ module _ {text : List ℕ} {i k at j : ℕ} (r : Reached text i k at j) (end : �
     pub reached-next : line_fits j (piece 10 text at) ≡ true → Reached text i k (end + 1) (j + 1)
     reached-next f = record { inside = omega (arith, l); decides = r.decides ∙ line-good text at end e r.inside l j f }
 
-pub record Scanning (text : List ℕ) (from : ℕ) (steps : List ℕ) (at j count : ℕ) : Type 0 where
+pub record Scanning (text : List ℕ) (from : ℕ) (steps : List ℕ) (at j : ℕ) (count : Option ℕ) : Type 0 where
   pub reached : Reached text from 4 at j
   pub late : 3 < j
   pub small : j ≤ at + 4
@@ -101,18 +102,8 @@ pub record Scanning (text : List ℕ) (from : ℕ) (steps : List ℕ) (at j coun
   pub done : step_numbers (pieces_from 10 text from) ≡ read ++ step_numbers (pieces_from 10 text at)
   pub kept : Kept read steps count
 
-pub scanning-start : (text : List ℕ) (from : ℕ) (steps : List ℕ) → from ≤ length text → Scanning text from steps from 4 0
-scanning-start text from steps h = record {
-  reached = reached-start text from 4 h;
-  late = omega arith;
-  small = omega arith;
-  read = [];
-  done = refl;
-  kept = kept-none steps;
-}
-
-module _ {text : List ℕ} {from : ℕ} {steps : List ℕ} {at j count : ℕ} (s : Scanning text from steps at j count) where
-  pub scanning-next : (end : ℕ) → end ≡ at + length (piece 10 text at) → end < length text → asks 5 4 (piece 10 text at) ≡ true → (left : List ℕ) (r : ℕ)
+module _ {text : List ℕ} {from : ℕ} {steps : List ℕ} {at j : ℕ} {count : Option ℕ} (s : Scanning text from steps at j count) where
+  pub scanning-next : (end : ℕ) → end ≡ at + length (piece 10 text at) → end < length text → asks 5 4 (piece 10 text at) ≡ true → (left : List ℕ) (r : Option ℕ)
       → Kept (s.read ++ numbers (piece 10 text at)) left r → Scanning text from left (end + 1) (j + 1) r
   scanning-next end e l f left r k = record {
     reached = reached-next s.reached end e l (step_fits j (piece 10 text at) s.late ∙ f);
@@ -155,10 +146,10 @@ module _ (text : List ℕ) (a b c : ℕ) (ha : a ≡ 0 + length (piece 10 text 0
   steps-are = ap (λ (ps : List (List ℕ)). step_numbers (drop 3 ps)) head-pieces
 
   -- what is known after all lines, from what is known after the lines of steps
-  pub head-good : (r : Scan) (figures steps : List ℕ) → malformed text ≡ bad_line 4 (pieces_from 10 text (c + 1)) → figures ≡ numbers (piece 10 text (a + 1))
+  pub head-good : (r : Result (Option ℕ) Malformed) (figures steps : List ℕ) → malformed text ≡ bad_line 4 (pieces_from 10 text (c + 1)) → figures ≡ numbers (piece 10 text (a + 1))
       → StepsScanned r text (c + 1) steps → Scanned r text figures steps
-  head-good (Malformed j) figures steps e f h = (e ∙ h.0, h.1)
-  head-good (Whole count) figures steps e f h = (
+  head-good (Err bad) figures steps e f h = (e ∙ h.0, h.1)
+  head-good (Ok count) figures steps e f h = (
     e ∙ h.0,
     f ∙ sym (ap (λ (ps : List (List ℕ)). numbers (front (drop 1 ps))) head-pieces),
     rw steps-are h.1,

@@ -11,24 +11,25 @@
 --     text_causes P w d text      the causes of a text under a checked plan, 13 and 15
 --     listing_own text G          the same of a plan as lent; `listing_causes G text β`: all that the call can meet, 1 2 3 4 5 13 15
 --     line_of k text              the line that goes with refusal k: the malformed one with 13, line 1 with 15, and none with another
---     answer_of a                 what each case of the answer is: it gives, or refuses with 01's number; and the line that goes with it, where one does
+--     refused r, refused_at r j   what the call returns where it refuses: without a line, and with line j
+--     answer_of a                 what the answer is: it gives, or refuses with 01's number; and the line that goes with it, where one does (`line_with`)
 --     text_answer P w d text      the answer for a checked plan; `listing_answer G text β`: what `read_listing` answers
 --     text_left P w d text β      what is left in β for a checked plan; `listing_left G text β`: what `read_listing` leaves there
 --     Listed G text β             β is a list of C residues whose listing is the text
-use Rattle.std.specs.Prelude.{◌≡◌, Bool, cond, not, ◌&&◌, List, [], ◌∷◌, ◌++◌, ℕ, suc, eqb, ltb, length, drop}
+use Rattle.std.specs.Prelude.{◌≡◌, Bool, cond, not, ◌&&◌, List, [], ◌∷◌, ◌++◌, ℕ, suc, eqb, ltb, length, drop, Option, Some, None, Result, Ok, Err, ⊤}
 use Rattle.lists.specs.Places.{same}
 use Rattle.field.specs.Residues.{Residues}
 use Rattle.field.specs.Rows.{all_below}
 use Rattle.plan.specs.declared.numbers.Plan.{Plan}
 use Rattle.plan.specs.declared.admission.Own.TheVariants.{Row}
-use Rattle.plan.specs.Causes.{first, leaves, Answer, gives, refuses, answer}
+use Rattle.plan.specs.Causes.{first, leaves, Answer, gives, refuses, answer, number}
 use Rattle.plan.specs.Numbers.{columns}
 use Rattle.plan.specs.Parts.{Given, call_causes}
 use Rattle.lines.specs.Lines.{cut_at, asks, numbers}
 use Rattle.listing.specs.Printed.{figure_names, step_names, listing}
 use Rattle.readback.specs.Recovery.{recovered}
-use Rattle.readback.specs.declared.calls.Reread.{Reread}
-use Rattle.readback.specs.declared.calls.Reread.TheVariants.{Read, Refused, RefusedAt}
+use Rattle.plan.specs.declared.refusal.Refusal.{Refusal}
+use Rattle.readback.specs.declared.unread.Unread.{Unread}
 
 -- a names line is compared with its LF, as `listing` has it
 unfoldable pub line_fits : ℕ → List ℕ → Bool
@@ -74,11 +75,20 @@ listing_causes G text β = call_causes G (Row (length β)) (listing_own text)
 abbrev pub line_of : ℕ → List ℕ → List ℕ
 line_of k text = cond (eqb k 13) (malformed text ∷ []) (cond (eqb k 15) (1 ∷ []) [])
 
--- no value comes with `Read`: what is read goes into β
-abbrev pub answer_of : Reread → Answer × List ℕ
-answer_of Read = (gives [], [])
-answer_of (Refused k) = (refuses k, [])
-answer_of (RefusedAt k j) = (refuses k, j ∷ [])
+abbrev pub refused : Refusal → Result ⊤ Unread
+refused r = Err (record { refusal = r; line = None })
+
+abbrev pub refused_at : Refusal → ℕ → Result ⊤ Unread
+refused_at r j = Err (record { refusal = r; line = Some j })
+
+abbrev pub line_with : Option ℕ → List ℕ
+line_with None = []
+line_with (Some j) = j ∷ []
+
+-- no value comes with a listing that is read: what is read goes into β
+abbrev pub answer_of : Result ⊤ Unread → Answer × List ℕ
+answer_of (Ok u) = (gives [], [])
+answer_of (Err unread) = (refuses (number unread.refusal), line_with unread.line)
 
 abbrev pub text_answer : Plan → List ℕ → List ℕ → List ℕ → Answer × List ℕ
 text_answer P w d text =

@@ -1,93 +1,93 @@
 // The lines of a listing, read once: whether each is as its place asks, and its numbers.
-ghost use Rattle.std.specs.Prelude.{◌≡◌, true, ◌+◌, ◌<◌, ◌≤◌, length};
+ghost use Rattle.std.specs.Prelude.{◌≡◌, true, ◌+◌, ◌<◌, ◌≤◌, length, IfSome, IfOk, IfErr};
 ghost use Rattle.lists.specs.Places.{placed};
+ghost use Rattle.lines.specs.Words.{piece};
 ghost use Rattle.readback.specs.Scanned as specs;
 
-use lines::{piece_end, read_line, same};
+use lines::{piece_end, read_line};
 
-// What the lines of a text give: the first malformed or missing one, or how many step numbers there are.
+// The first line that is malformed or missing.
 #[derive(Clone, Copy)]
-pub enum Scan {
-    Malformed(usize),
-    Whole(usize),
+pub struct Malformed {
+    pub line: usize,
 }
 
-// The numbers of a step behind the first `count` of `steps`. Answers how many stand there then; one more than there is room for where
-// they do not fit, or did not before, and then what stands there has no meaning.
-fn keep_step(v: &[usize], steps: &mut [u16], count: usize) -> usize
+// The numbers of a step behind the first `count` of `steps`. Answers how many stand there then; None where they do not fit, or did not
+// before, and then what stands there has no meaning.
+fn keep_step(v: &[usize], steps: &mut [u16], count: Option<usize>) -> Option<usize>
     requires v_len { length v.now ≡ 4 }
-    requires count_in_bounds { count ≤ length steps.old + 1 }
+    requires count_in_bounds { IfSome count (λ k. k ≤ length steps.old) }
     ensures value { result ≡ specs.count_after v.now (length steps.old) count }
-    ensures steps_after { specs.fits v.now (length steps.old) count ≡ true → steps.new ≡ placed steps.old count v.now }
+    ensures steps_after { IfSome count (λ k. specs.fits v.now (length steps.old) k ≡ true → steps.new ≡ placed steps.old k v.now) }
 {
-    let room = steps.len();
-    let end = count + v.len();
-    if room < end {
-        return room + 1;
+    let before = count?;
+    let end = before + v.len();
+    if steps.len() < end {
+        return None;
     }
-    let mut i: usize = 0;
-    while i < v.len() {
-        let number = v[i];
-        if 65535 < number {
-            return room + 1;
-        }
-        steps[count + i] = number as u16;
-        i += 1;
+    for (i, number) in v.iter().enumerate() {
+        steps[before + i] = u16::try_from(*number).ok()?;
     }
-    end
+    Some(end)
 }
 
-// The lines of steps, from line 4 on, which begins at `from`: their numbers into `steps`.
-fn scan_steps(text: &[u8], from: usize, steps: &mut [u16]) -> Scan
+// Where line `line`, which begins at `at`, has its LF.
+fn line_end(text: &[u8], at: usize, line: usize) -> Result<usize, Malformed>
+    requires { at ≤ length text.now }
+    ensures ok { IfOk result (λ end. (end ≡ at + length (piece 10 text.now at)) × (end < length text.now)) }
+    ensures err { IfErr result (λ bad. (bad.line ≡ line) × (at + length (piece 10 text.now at) ≡ length text.now)) }
+{
+    let end = piece_end(text, at, b'\n');
+    if end == text.len() {
+        return Err(Malformed { line });
+    }
+    Ok(end)
+}
+
+// The lines of steps, from line 4 on, which begins at `from`: their numbers into `steps`. Answers how many there are; None where they do not
+// fit.
+fn scan_steps(text: &[u8], from: usize, steps: &mut [u16]) -> Result<Option<usize>, Malformed>
     requires { from ≤ length text.now }
     ensures { specs.StepsScanned result text.now from steps.new }
 {
-    let mut at = from;
-    let mut j: usize = 4;
-    let mut count: usize = 0;
-    while at < text.len() {
-        let end = piece_end(text, at, 10);
-        if end == text.len() {
-            return Scan::Malformed(j);
-        }
+    let mut count = Some(0);
+    for (i, line) in text[from..].split_inclusive(|b| *b == b'\n').enumerate() {
+        let malformed = Malformed { line: 4 + i };
+        let Some(line) = line.strip_suffix(b"\n") else {
+            return Err(malformed);
+        };
         let mut v = [0usize; 4];
-        if !read_line(&text[at..end], 5, &mut v) {
-            return Scan::Malformed(j);
+        if !read_line(line, 5, &mut v) {
+            return Err(malformed);
         }
         count = keep_step(&v, steps, count);
-        at = end + 1;
-        j += 1;
     }
-    Scan::Whole(count)
+    Ok(count)
 }
 
-// All lines: names, figures, names, steps. The figures go into `figures`, the numbers of the steps into `steps`.
-pub fn scan_text(text: &[u8], figures: &mut [usize], steps: &mut [u16]) -> Scan
+// All lines: names, figures, names, steps. The figures go into `figures`, the numbers of the steps into `steps`. Answers how many numbers there
+// are; None where they do not fit.
+pub fn scan_text(
+    text: &[u8],
+    figures: &mut [usize],
+    steps: &mut [u16],
+) -> Result<Option<usize>, Malformed>
     requires { length figures.old ≡ 3 }
     ensures { specs.Scanned result text.now figures.new steps.new }
 {
-    let first = piece_end(text, 0, 10);
-    if first == text.len() {
-        return Scan::Malformed(1);
-    }
-    if !same(&text[..first], b"bootstraps steps worst") {
-        return Scan::Malformed(1);
+    let first = line_end(text, 0, 1)?;
+    if &text[..first] != b"bootstraps steps worst".as_slice() {
+        return Err(Malformed { line: 1 });
     }
     let at = first + 1;
-    let second = piece_end(text, at, 10);
-    if second == text.len() {
-        return Scan::Malformed(2);
-    }
+    let second = line_end(text, at, 2)?;
     if !read_line(&text[at..second], 7, figures) {
-        return Scan::Malformed(2);
+        return Err(Malformed { line: 2 });
     }
     let at = second + 1;
-    let third = piece_end(text, at, 10);
-    if third == text.len() {
-        return Scan::Malformed(3);
-    }
-    if !same(&text[at..third], b"kind to from by") {
-        return Scan::Malformed(3);
+    let third = line_end(text, at, 3)?;
+    if &text[at..third] != b"kind to from by".as_slice() {
+        return Err(Malformed { line: 3 });
     }
     scan_steps(text, third + 1, steps)
 }

@@ -1,7 +1,7 @@
 // The list of entry records that a caller lends: what a record is, and the few thin functions that take the slice.
 //
-// None of them decides anything: what is put, and what is removed, is told by the caller, which is `celerycrag`. Stands on the standard library
-// alone. Renders 02, C-18.
+// None of them decides anything: what is put, and what is removed, is told by the caller, which is `celerycrag`. They come with a count, as C
+// lends them: as many records as the plan has entries, of which the first `count` are the list. Stands on the standard library alone. Renders 02, C-18.
 #![tactic(auto)]
 
 ghost use Rattle.std.specs.Prelude.{◌≡◌, ◌<◌, ◌≤◌, length, get_or, set};
@@ -21,12 +21,8 @@ pub fn remove(records: &mut [Record], count: usize, at: usize) -> u16
     ensures { (result ≡ (get_or records.old at none).value) × (records.new ≡ removed records.old count at) }
 {
     let value = records[at].value;
-    let mut i = at;
-    while i + 1 < count {
-        records[i] = records[i + 1];
-        i += 1;
-    }
-    records[i] = Record { entry: 0, value: 0 };
+    records.copy_within(at + 1..count, at);
+    records[count - 1] = Record { entry: 0, value: 0 };
     value
 }
 
@@ -34,24 +30,20 @@ pub fn remove(records: &mut [Record], count: usize, at: usize) -> u16
 pub fn note(list: &mut [u16], i: usize, r: Record)
     ensures { list.new ≡ noted list.old i r.entry r.value }
 {
-    let room = list.len() / 2;
-    if i < room {
+    if i < list.len() / 2 {
         list[2 * i] = r.entry;
         list[2 * i + 1] = r.value;
     }
 }
 
 // The records as a list of numbers, two each, as far as they fit. Their number.
-pub fn unpack<'a, 'b>(list: &'a mut [u16], records: &'b [Record]) -> usize
+pub fn unpack(list: &mut [u16], records: &[Record]) -> usize
     ensures { (result ≡ length records.now) × (list.new ≡ unpacked (length records.now) 0 records.now list.old) }
 {
-    let count = records.len();
-    let mut i = 0;
-    while i < count {
-        note(&mut *list, i, records[i]);
-        i += 1;
+    for (i, r) in records.iter().enumerate() {
+        note(list, i, *r);
     }
-    count
+    records.len()
 }
 
 // A record at a place; nothing past the end.
@@ -67,9 +59,7 @@ pub fn put(records: &mut [Record], at: usize, entry: u16, value: u16)
 pub fn remove_at(records: &mut [Record], count: usize, at: usize)
     ensures { records.new ≡ removed_at records.old count at }
 {
-    if at < count {
-        if count <= records.len() {
-            remove(records, count, at);
-        }
+    if at < count && count <= records.len() {
+        remove(records, count, at);
     }
 }

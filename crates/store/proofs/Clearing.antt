@@ -3,6 +3,7 @@
 --     cleared-none, cleared-next, cleared-all       before the first row, a row more, and after the last
 --     cleared-start          after the last row, the next one is row k
 --     clears-at, cleared-residues     the row that is cleared next: where it stands, and that it has residues
+--     row-cleared            where row k stands then
 --     pivot-line, pivot-at, pivot-before      the pivot: its places are the normal equation's
 --     row-inserted           with row k written, the store is `inserted`: left of column k nothing of it is kept
 -- The rows below row k have 0 in column k, since they are zero left of their diagonal, so `inserted` leaves them as they are.
@@ -125,6 +126,10 @@ module _ {p C : ℕ} {S : ℕ → ℕ → ℕ} {N : ℕ → ℕ} {k r begin : �
         | yes a ↦ w.done q j l b (omega arith) ∙ rw (lt-ltb q k a)
         | no a ↦ let a' : k ≤ q = omega arith in w.rest q j l b (omega (arith, w.within)) ∙ rw (le-ltb q k a')
       ])
+
+-- row k, of the store as the clearing leaves it
+pub row-cleared : {C k begin : ℕ} {store : List ℕ} (S : ℕ → ℕ → ℕ) → k < C → begin ≡ row_start C k → store ≡ flat C S → RowAt C store k begin
+row-cleared S l b e = record { size = ap length e ∙ flat-length _ _; inside = l; begins = b }
 
 -- the pivot, as the residual's multiple leaves it
 module _ {p C : ℕ} {res : List ℕ} (g : ℕ) {pivot : List ℕ} (line : Line p C res) (pos : 0 < p) (h : pivot ≡ multiple p g res) where

@@ -4,7 +4,7 @@
 --     Subtracted            the state after q rows: the sums by place, whether they stand in one list or in two
 --     subtracted-none, subtracted-next, subtracted-all      before the first row, a row more, and after the last
 --     subtracted-room       a list of such sums, or of parts of them, has headroom for another list or for a product of two bytes
---     row_at                where row q stands
+--     row_at, row-small     where row q stands, and that its bytes are residues
 --     factor-small, added-length, added       row q times its factor: a bound, and a list that it is added to from its column on
 --     Held, rows_fit, held_none, held-room, held_small, held_fits, held_next, held_all      the same with part of the sums in 16 bits
 --     reduced-sums          the sums reduced are the residual
@@ -100,6 +100,9 @@ module _ {p C : ℕ} {store e : List ℕ} (ready : Ready p C store) (line : Line
       pub row_at : RowAt C store q begin
       row_at = record { size = ready.places; inside = l; begins = w.begins }
 
+      pub row-small : (j : ℕ) → at (row_tail C store begin q) j < p
+      row-small = tail-residues row_at (le_refl q) (le_of_lt l) p pos (λ j k. ready.reduced.residues q j l k)
+
       pub subtracted-next : (f' : ℕ → ℕ) → ((j : ℕ) → j ≤ C → f' j ≡ f j + less p C store e q j)
           → Subtracted p C store e (q + 1) (begin + (C - q)) f'
       unfolding deferred
@@ -122,7 +125,7 @@ module _ {p C : ℕ} {store e : List ℕ} (ready : Ready p C store) (line : Line
 
         pub factor-small : (j : ℕ) → g * at (row_tail C store begin q) j ≤ p * p
         unfolding factor
-        factor-small j = mul-le-mul low (le_of_lt (tail-residues row_at (le_refl q) (le_of_lt l) p pos (λ j k. ready.reduced.residues q j l k) j))
+        factor-small j = mul-le-mul low (le_of_lt (row-small j))
           where
             none_or : (b : Bool) (x : ℕ) → x < p → cond b 0 x ≤ p
             none_or true x h = omega arith

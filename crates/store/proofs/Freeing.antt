@@ -1,22 +1,27 @@
 -- A row looked at column by column from the left, as the search of `settling` does it.
 --     column-sum           the residual's place q with nothing reduced yet, by the first n rows alone
---     sum-none, sum_more, sum_room         no row, a row more, and that it fits in 32 bits
+--     sum-none, sum_more   no row, a row more
+--     row-room             a row ends within the store
+--     sum-next, sum_room   a row more, as the code reads it: the sum after it, and that it fits in 32 bits
 --     column-residual      by the rows above row q it is the residual's place q, for a column without a pivot and for the right-hand side
 --     lead-open, open-lead                 the first column at which the residual is not 0 is the first that has a value and no pivot, clearing from the left
 --     pivots-cleared       columns with a pivot are zero in the residual, so that a search may pass them
 -- Assumes nothing.
-use mathlib.Core.Path.{◌≡◌, sym, ap, ◌∙◌}
+use mathlib.Core.Path.{◌≡◌, sym, ap, ap₂, ◌∙◌}
 use mathlib.Core.Logic.{⊎_elim, ◌≢◌}
 use mathlib.Core.List.{List}
 use Prim.Native.Nat.{ℕ, ◌+◌, ◌-◌, ◌*◌, ◌%◌, ◌≤◌, ◌<◌}
 use native.Mathlib.Nat.{add-zero, mul-zero, le_of_lt, mul-le-mul, mul-le-mul_right}
 use native.Mathlib.Decide.{dec_lt, ℕ_discrete}
 use native.Mathlib.Omega.{arith}
+use lib.ListN.{length}
 use Rattle.lists.specs.Places.{sum, at}
 use Rattle.lists.proofs.Sums as sums
-use Rattle.store.specs.Elimination.{Reduced, residual, lead, cells}
+use Rattle.store.specs.Elimination.{Reduced, residual, lead, row_start, cells}
 use Rattle.store.specs.Stages.{Ready, Line, NextFree}
 use Rattle.store.specs.Settled.{left_cleared, FirstOpen}
+use Rattle.store.proofs.RowStarts.{row-end}
+use Rattle.store.proofs.Bytes.{cells_right}
 use Rattle.store.proofs.Leads.{lead-before, lead-nonzero, lead_is}
 use Rattle.store.proofs.ReducedForm.{left-zero}
 use Rattle.store.proofs.Residuals.{residual-pivot}
@@ -27,7 +32,7 @@ column-sum p S e q n = e q + sum (λ r. (p - e r) * S r q) n
 pub sum-none : (p : ℕ) (S : ℕ → ℕ → ℕ) (e : ℕ → ℕ) (q : ℕ) → e q ≡ column-sum p S e q 0
 sum-none p S e q = omega (arith, sums.sum-zero (λ r. (p - e r) * S r q))
 
-pub sum_more : (p : ℕ) (S : ℕ → ℕ → ℕ) (e : ℕ → ℕ) (q n : ℕ) → column-sum p S e q n + (p - e n) * S n q ≡ column-sum p S e q (n + 1)
+sum_more : (p : ℕ) (S : ℕ → ℕ → ℕ) (e : ℕ → ℕ) (q n : ℕ) → column-sum p S e q n + (p - e n) * S n q ≡ column-sum p S e q (n + 1)
 sum_more p S e q n = omega (arith, sums.sum-next (λ r. (p - e r) * S r q) n)
 
 module _ (p C : ℕ) (S : ℕ → ℕ → ℕ) (e : ℕ → ℕ) (red : Reduced p C S) where
@@ -88,18 +93,33 @@ module _ (p C : ℕ) (S : ℕ → ℕ → ℕ) (e : ℕ → ℕ) (red : Reduced 
         (λ _ z. f.value (same c l f.no-pivot ∙ z))
 
 module _ {p C : ℕ} {store e : List ℕ} (ready : Ready p C store) (line : Line p C e) where
-  pub sum_room : (q n : ℕ) → q ≤ C → n < C → column-sum p (cells C store) (at e) q n + (p - at e n) * cells C store n q < 4294967296
-  sum_room q n l k =
-      omega (arith, line.residues q, ready.modulus.1, sums.sum-le (λ r. (p - at e r) * cells C store r q) (251 * 250) n (λ r h. term r (omega arith)), mul-le-mul_right 62750 few, term n k)
-    where
-      few : n ≤ 1024
-      few = omega (arith, ready.limit)
+  term : (q r : ℕ) → q ≤ C → r < C → (p - at e r) * cells C store r q ≤ 251 * 250
+  term q r l h =
+      let a : p - at e r ≤ 251 = omega (arith, ready.modulus.1) in
+      let b : cells C store r q ≤ 250 = omega (arith, ready.reduced.residues r q h l, ready.modulus.1) in
+      mul-le-mul a b
 
-      term : (r : ℕ) → r < C → (p - at e r) * cells C store r q ≤ 251 * 250
-      term r h =
-          let a : p - at e r ≤ 251 = omega (arith, ready.modulus.1) in
-          let b : cells C store r q ≤ 250 = omega (arith, ready.reduced.residues r q h l, ready.modulus.1) in
-          mul-le-mul a b
+  -- row i, of those above row q, read at a in its column q
+  module _ {q i a x : ℕ} (l : q ≤ C) (above : i < q) (place : a ≡ row_start C i + q) (sums-before : x ≡ column-sum p (cells C store) (at e) q i) where
+    inside : i < C
+    inside = omega arith
+
+    few : i ≤ 1024
+    few = omega (arith, ready.limit)
+
+    row-at : at store a ≡ cells C store i q
+    row-at = ap (at store) place ∙ sym (cells_right C store i q (le_of_lt above))
+
+    pub row-room : row_start C i + (C + 1) ≤ length store
+    row-room = omega (arith, row-end C i inside, ready.places)
+
+    pub sum-next : x + (p - at e i) * at store a ≡ column-sum p (cells C store) (at e) q (i + 1)
+    sum-next = ap₂ (λ (x y : ℕ). x + (p - at e i) * y) sums-before row-at ∙ sum_more p (cells C store) (at e) q i
+
+    pub sum_room : x + (p - at e i) * at store a < 4294967296
+    sum_room =
+        let bound = sums.sum-le (λ r. (p - at e r) * cells C store r q) (251 * 250) i (λ r h. term q r l (omega arith)) in
+        omega (arith, sums-before, ap (λ (y : ℕ). (p - at e i) * y) row-at, line.residues q, ready.modulus.1, bound, mul-le-mul_right 62750 few, term q i l inside)
 
   pub pivots-cleared : (from r : ℕ) → NextFree C (cells C store) from r → ((j : ℕ) → j < from → residual p C (cells C store) (at e) j ≡ 0)
       → (j : ℕ) → j < r → residual p C (cells C store) (at e) j ≡ 0

@@ -1,19 +1,24 @@
 -- What filing answers and leaves, from the residual that stands at the front of a longer list and the place of its first coefficient.
---     Left                   the list is the residual of e
+--     Left, is-left          the list is the residual of e
 --     left-length, left_at, left-line, last-at    its length, a place of it at the longer list's front, that it is a line, its right-hand side
---     LeadAt, lead-of        k is the residual's lead; the place found among the first C is it
+--     LeadAt                 k is the residual's lead
+--     lead-found, lead-missing     the place found among the first C is it; where none is found, it is C
 --     lead-left              left of it the residual is zero
 --     new-answer, new-store             a new equation
 --     conflict-answer, implied-answer, same_store       a contradiction and an implied equation, which leave the store
 -- Assumes nothing.
 use mathlib.Core.Path.{◌≡◌, refl, sym, ap, subst⁻¹, ◌∙◌}
+use mathlib.Core.Bool.{not}
 use mathlib.Core.List.{List, ◌++◌}
 use Prim.Native.Nat.{ℕ, ◌+◌, ◌≤◌, ◌<◌}
 use native.Mathlib.Nat.{le_of_lt}
 use native.Mathlib.Omega.{arith}
+use lib.Dec.{eqb}
 use lib.ListN.{length, take, get_or-append}
 use lib.Seq.{length-take-le, get_or-take}
 use borrow.Author.Tests.{eq-eqb, ne_eqb, lt-ltb, le-ltb}
+use Rattle.std.proofs.Common.{Some, None}
+use Rattle.std.specs.List.{position}
 use Rattle.lists.specs.Places.{tab, at}
 use Rattle.lists.proofs.Tabs.{tab-length, tab-at}
 use Rattle.field.proofs.Ranges.{residues-tab}
@@ -21,8 +26,10 @@ use Rattle.plan.specs.Parts.{store_size}
 use Rattle.store.specs.Elimination.{residual, lead, normal, inserted, outcome, after, cells, flat}
 use Rattle.store.specs.Stages.{Line}
 use Rattle.store.specs.Calls.{answer_of, answered}
-use Rattle.store.specs.declared.elimination.Filed.TheVariants.{New, Implied, Refused}
-use Rattle.store.proofs.Leads.{lead-ext, lead-before}
+use Rattle.std.specs.Prelude.{Ok, Err}
+use Rattle.plan.specs.declared.refusal.Refusal.TheVariants.{Contradiction}
+use Rattle.store.specs.declared.elimination.Filed.TheVariants.{New, Implied}
+use Rattle.store.proofs.Leads.{lead-ext, lead-before, position-found, position-below, position-missing}
 use Rattle.store.proofs.Bytes.{flat-cells, flat-ext}
 use Rattle.store.proofs.Residuals.{residual-small}
 use Rattle.store.proofs.SamePlaces.{normal-ext, inserted-ext}
@@ -30,6 +37,9 @@ use Rattle.store.proofs.Fronts.{front-list, front_length, front-room}
 
 pub record Left (p C : ℕ) (store : List ℕ) (e : ℕ → ℕ) (res : List ℕ) : Type 0 where
   pub list : res ≡ tab (C + 1) (residual p C (cells C store) e)
+
+pub is-left : (p C : ℕ) (store : List ℕ) (e : ℕ → ℕ) (res : List ℕ) → res ≡ tab (C + 1) (residual p C (cells C store) e) → Left p C store e res
+is-left p C store e res h = record { list = h }
 
 pub record LeadAt (p C : ℕ) (store : List ℕ) (e : ℕ → ℕ) (k : ℕ) : Type 0 where
   pub lead_is : k ≡ lead (residual p C (cells C store) e) C
@@ -64,15 +74,20 @@ module _ {p C : ℕ} {store : List ℕ} {e : ℕ → ℕ} {res : List ℕ} (h : 
     pub lead-length : length (take C (res ++ rest)) ≡ C
     lead-length = length-take-le C (res ++ rest) lead-room
 
-    pub lead-of : (k : ℕ) → k ≡ lead (at (take C (res ++ rest))) (length (take C (res ++ rest))) → LeadAt p C store e k
-    lead-of k g =
-        record {
-          lead_is =
-              g ∙ ap (lead (at (take C (res ++ rest)))) lead-length
-              ∙ lead-ext (at (take C (res ++ rest))) (residual p C (cells C store) e) C
-              (λ j l.
-              get_or-take C (res ++ rest) j 0 l ∙ sym (get_or-take (C + 1) (res ++ rest) j 0 (omega arith)) ∙ left_at j (le_of_lt l));
-        }
+    same-lead : lead (at (take C (res ++ rest))) (length (take C (res ++ rest))) ≡ lead (residual p C (cells C store) e) C
+    same-lead =
+        ap (lead (at (take C (res ++ rest)))) lead-length
+        ∙ lead-ext (at (take C (res ++ rest))) (residual p C (cells C store) e) C
+        (λ j l.
+        get_or-take C (res ++ rest) j 0 l ∙ sym (get_or-take (C + 1) (res ++ rest) j 0 (omega arith)) ∙ left_at j (le_of_lt l))
+
+    pub lead-found : (k : ℕ) → Some k ≡ position (λ x. not (eqb x 0)) (take C (res ++ rest)) → (k < C) × LeadAt p C store e k
+    lead-found k h =
+        let found = position-found (take C (res ++ rest)) k h in
+        (position-below C (res ++ rest) k h, record { lead_is = found.1 ∙ same-lead })
+
+    pub lead-missing : None ≡ position (λ x. not (eqb x 0)) (take C (res ++ rest)) → LeadAt p C store e C
+    lead-missing h = record { lead_is = sym lead-length ∙ sym (position-missing (take C (res ++ rest)) h) ∙ same-lead }
 
 module _ {p C : ℕ} {store : List ℕ} {e : ℕ → ℕ} {k : ℕ} (found : LeadAt p C store e k) where
   g : k ≡ lead (residual p C (cells C store) e) C
@@ -82,7 +97,7 @@ module _ {p C : ℕ} {store : List ℕ} {e : ℕ → ℕ} {k : ℕ} (found : Lea
   lead-left j l = lead-before (residual p C (cells C store) e) C j (omega (arith, g))
 
   module _ (l : k < C) where
-    pub new-answer : answer_of (New k) ≡ answered (outcome p C (cells C store) e)
+    pub new-answer : answer_of (Ok (New k)) ≡ answered (outcome p C (cells C store) e)
     unfolding outcome
     new-answer = rw (sym g, lt-ltb k C l)
 
@@ -97,11 +112,11 @@ module _ {p C : ℕ} {store : List ℕ} {e : ℕ → ℕ} {k : ℕ} (found : Lea
         (normal-ext p res (residual p C (cells C store) e) k j (same k (le_of_lt l)) (same j b))))
 
   module _ (l : C ≤ k) where
-    pub conflict-answer : (residual p C (cells C store) e C ≡ 0 → ⊥) → answer_of (Refused 9) ≡ answered (outcome p C (cells C store) e)
+    pub conflict-answer : (residual p C (cells C store) e C ≡ 0 → ⊥) → answer_of (Err Contradiction) ≡ answered (outcome p C (cells C store) e)
     unfolding outcome
     conflict-answer d = rw (sym g, le-ltb k C l, ne_eqb (residual p C (cells C store) e C) 0 d)
 
-    pub implied-answer : residual p C (cells C store) e C ≡ 0 → answer_of Implied ≡ answered (outcome p C (cells C store) e)
+    pub implied-answer : residual p C (cells C store) e C ≡ 0 → answer_of (Ok Implied) ≡ answered (outcome p C (cells C store) e)
     unfolding outcome
     implied-answer z = rw (sym g, le-ltb k C l, eq-eqb (residual p C (cells C store) e C) 0 z)
 

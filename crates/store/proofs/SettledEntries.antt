@@ -32,7 +32,7 @@ use Rattle.store.specs.Calls as filing
 use Rattle.store.specs.Calls.{equation, outcome_of, file_own, file_answer, answered}
 use Rattle.store.specs.Settled.{Standing, forced, free, standing_of, Gives, settle_own, settle_causes, answer_of, values_of, settle_answer, Settles, FirstOpen}
 use Rattle.store.specs.declared.elimination.Filed.TheVariants as filed
-use Rattle.store.specs.declared.settling.Settled.{Settled}
+use Rattle.std.specs.Prelude.{Ok}
 use Rattle.store.specs.declared.settling.Settled.TheVariants.{Forced, Free}
 use Rattle.store.proofs.Answers.{new≢implied, new≢contradiction, implied≢contradiction}
 use Rattle.store.proofs.ReadingOff.{solution, solution-length, solution-residues, solution-solves}
@@ -43,25 +43,25 @@ use Rattle.store.proofs.EntryEquations.{coefficient, right-hand, equation-residu
 use Rattle.store.proofs.StoreCalls.{ready_of}
 
 -- what the last return answers, where no cause is met; H is the plan as it was admitted
-pub settled-call : (G H : Given) (store : List ℕ) (i F : ℕ) (r : Settled) → G ≡ H → F ≡ 0
-    → answer_of r ≡ gives (values_of (standing_of H store i)) → answer_of r ≡ answer F (values_of (standing_of G store i))
-settled-call G H store i F r same f h = h ∙ ap₂ (λ (k : ℕ) (K : Given). answer k (values_of (standing_of K store i))) (sym f) (sym same)
+pub settled-call : (G H : Given) (store : List ℕ) (i F : ℕ) (vs : List ℕ) → H ≡ G → F ≡ 0
+    → vs ≡ values_of (standing_of H store i) → gives vs ≡ answer F (values_of (standing_of G store i))
+settled-call G H store i F vs same f h = ap gives h ∙ ap₂ (λ (k : ℕ) (K : Given). answer k (values_of (standing_of K store i))) (sym f) same
 
 -- an answer tells the case
-forced-told : (o : Standing) (v : ℕ) → (gives (values_of o) ≡ answer_of (Forced v)) ↔ (o ≡ forced v)
+forced-told : (o : Standing) (v : ℕ) → (gives (values_of o) ≡ answer_of (Ok (Forced v))) ↔ (o ≡ forced v)
 forced-told (forced u) v = ((λ h. let e : u ≡ v = cc in ap forced e), (λ h. let e : u ≡ v = cc in rw e))
 forced-told (free c) v = ((λ h. let z : ◌≡◌ {A = ℕ} 1 0 = cc in absurd (omega arith)), (λ h. absurd (forced≢free v c (sym h))))
 
-free-told : (o : Standing) (c : ℕ) → (gives (values_of o) ≡ answer_of (Free c)) ↔ (o ≡ free c)
+free-told : (o : Standing) (c : ℕ) → (gives (values_of o) ≡ answer_of (Ok (Free c))) ↔ (o ≡ free c)
 free-told (forced u) c = ((λ h. let z : ◌≡◌ {A = ℕ} 0 1 = cc in absurd (omega arith)), (λ h. absurd (forced≢free u c h)))
 free-told (free k) c = ((λ h. let e : k ≡ c = cc in ap free e), (λ h. let e : k ≡ c = cc in rw e))
 
-implied-told : (o : Outcome) → (answered o ≡ filing.answer_of filed.Implied) ↔ (o ≡ implied)
+implied-told : (o : Outcome) → (answered o ≡ filing.answer_of (Ok filed.Implied)) ↔ (o ≡ implied)
 implied-told (new c) = ((λ h. let z : ◌≡◌ {A = ℕ} 0 1 = cc in absurd (omega arith)), (λ h. absurd (new≢implied c h)))
 implied-told implied = ((λ h. refl), (λ h. refl))
 implied-told contradiction = ((λ h. let z : ◌≡◌ {A = ℕ} 0 1 = cc in absurd (omega arith)), (λ h. absurd (implied≢contradiction (sym h))))
 
-new_told : (o : Outcome) (c : ℕ) → (answered o ≡ filing.answer_of (filed.New c)) ↔ (o ≡ new c)
+new_told : (o : Outcome) (c : ℕ) → (answered o ≡ filing.answer_of (Ok (filed.New c))) ↔ (o ≡ new c)
 new_told (new k) c = ((λ h. let e : k ≡ c = cc in ap new e), (λ h. let e : k ≡ c = cc in rw e))
 new_told implied c = ((λ h. let z : ◌≡◌ {A = ℕ} 0 1 = cc in absurd (omega arith)), (λ h. absurd (new≢implied c (sym h))))
 new_told contradiction c = ((λ h. let z : ◌≡◌ {A = ℕ} 0 1 = cc in absurd (omega arith)), (λ h. absurd (new≢contradiction c (sym h))))
@@ -124,10 +124,10 @@ module _ (G : Given) (S : List ℕ) (i : ℕ) (within : Within G.numbers) (lent 
     filed-by : (v : ℕ) → v < G.numbers.s → file_answer G S i v ≡ answered (resolution (standing_of G S i) v)
     filed-by v l = files v l ∙ ap answered (by-standing v (omega (arith, within.value-high)))
 
-    forced-reply : (v : ℕ) → (settle_answer G S i ≡ answer_of (Forced v)) ↔ (standing_of G S i ≡ forced v)
+    forced-reply : (v : ℕ) → (settle_answer G S i ≡ answer_of (Ok (Forced v))) ↔ (standing_of G S i ≡ forced v)
     forced-reply v = let t = forced-told (standing_of G S i) v in ((λ h. t.0 (sym given ∙ h)), (λ h. given ∙ t.1 h))
 
-    free-reply : (c : ℕ) → (settle_answer G S i ≡ answer_of (Free c)) ↔ (standing_of G S i ≡ free c)
+    free-reply : (c : ℕ) → (settle_answer G S i ≡ answer_of (Ok (Free c))) ↔ (standing_of G S i ≡ free c)
     free-reply c = let t = free-told (standing_of G S i) c in ((λ h. t.0 (sym given ∙ h)), (λ h. given ∙ t.1 h))
 
     settles : Settles G S i

@@ -19,9 +19,8 @@ use borrow.Author.Tests.{lt-ltb, le-ltb, eq-eqb, ne_eqb}
 use Rattle.lists.specs.Places.{sum}
 use Rattle.lists.proofs.Sums.{sum-ext}
 use Rattle.field.proofs.Modular.{cong-of, cong-add}
-use Rattle.plan.specs.Causes.{gives}
 use Rattle.store.specs.Elimination.{Outcome, new, implied, contradiction, residual, lead, outcome}
-use Rattle.store.specs.Settled.{Standing, forced, free, standing, answer_of, values_of}
+use Rattle.store.specs.Settled.{Standing, forced, free, standing, told, values_of}
 use Rattle.store.specs.declared.settling.Settled.TheVariants.{Forced, Free}
 use Rattle.store.proofs.Leads.{lead-ext}
 use Rattle.store.proofs.Residuals.{residual-small, residual-ext}
@@ -29,11 +28,11 @@ use Rattle.store.proofs.Answers.{new≢implied, new≢contradiction, implied≢c
 
 -- the answer, by the first column k at which the residual is not 0
 module _ (p C : ℕ) (S : ℕ → ℕ → ℕ) (e : ℕ → ℕ) (k : ℕ) (h : k ≡ lead (residual p C S e) C) where
-  pub free-answer : k < C → answer_of (Free k) ≡ gives (values_of (standing p C S e))
+  pub free-answer : k < C → told (Free k) ≡ values_of (standing p C S e)
   unfolding standing
   free-answer l = rw (sym h, lt-ltb k C l)
 
-  pub forced-answer : C ≤ k → (x v : ℕ) → x ≡ residual p C S e C → v ≡ (p - x) % p → answer_of (Forced v) ≡ gives (values_of (standing p C S e))
+  pub forced-answer : C ≤ k → (x v : ℕ) → x ≡ residual p C S e C → v ≡ (p - x) % p → told (Forced v) ≡ values_of (standing p C S e)
   unfolding standing
   forced-answer l x v hx hv = rw (sym h, le-ltb k C l, sym hx, sym hv)
 

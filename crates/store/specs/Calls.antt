@@ -16,18 +16,19 @@
 --     filed G store i v          the store after filing; what it spans is said by `Span`
 --     file_answer, file_store    what `file` answers, and the store it leaves
 --     coefficients C store       the coefficients read off: "coefficient q is the right-hand side of row q"
-use Rattle.std.specs.Prelude.{Bool, cond, not, List, [], ◌∷◌, ◌++◌, ℕ, ltb, length, replicate}
+use Rattle.std.specs.Prelude.{Bool, cond, not, List, [], ◌∷◌, ◌++◌, ℕ, ltb, length, replicate, Result}
 use Rattle.lists.specs.Places.{tab, at}
 use Rattle.plan.specs.declared.numbers.Plan.{Plan}
 use Rattle.plan.specs.declared.admission.Own.TheVariants.{Store, StoreAndRow}
 use Rattle.plan.specs.Numbers.{columns}
-use Rattle.plan.specs.Causes.{first, leaves, Answer, gives, refuses, answer}
+use Rattle.plan.specs.Causes.{first, leaves, Answer, gives, refuses, answer, answer_with}
 use Rattle.plan.specs.Parts.{Given, store_size, call_causes}
 use Rattle.plan.specs.Rows.{row, entry_cause}
 use Rattle.store.specs.Elimination.{Outcome, new, implied, contradiction, is_reduced, outcome, after, read_off, cells, flat}
 use Rattle.store.specs.Filings.{is_contradiction}
 use Rattle.store.specs.declared.elimination.Filed.{Filed}
-use Rattle.store.specs.declared.elimination.Filed.TheVariants.{New, Implied, Refused}
+use Rattle.store.specs.declared.elimination.Filed.TheVariants.{New, Implied}
+use Rattle.plan.specs.declared.refusal.Refusal.{Refusal}
 
 abbrev pub equation_of : Given → ℕ → ℕ → List ℕ
 equation_of G i v = row G i ++ (v ∷ [])
@@ -69,10 +70,12 @@ abbrev pub coefficients_causes : Given → List ℕ → List ℕ → List (ℕ �
 coefficients_causes G store β = call_causes G (StoreAndRow (length store) (length β)) (coefficients_own store)
 
 -- "It answers New with the pivot column, Implied, or a refusal"
-abbrev pub answer_of : Filed → Answer
-answer_of (New c) = gives (c ∷ [])
-answer_of Implied = gives []
-answer_of (Refused k) = refuses k
+abbrev pub told : Filed → List ℕ
+told (New c) = c ∷ []
+told Implied = []
+
+abbrev pub answer_of : Result Filed Refusal → Answer
+answer_of a = answer_with told a
 
 abbrev pub values_of : Outcome → List ℕ
 values_of (new c) = c ∷ []

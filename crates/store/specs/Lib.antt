@@ -5,7 +5,8 @@ pub mod Filings
 pub mod Calls
 pub mod Settled
 pub mod Span
--- What only serves the code: the contracts of the functions below the calls. The stages of a filing, and the test of reduced form in one
--- reading of the store.
+-- What only serves the code: the contracts of the functions below the calls. The stages of a filing, with a lemma for a ghost field, and the
+-- test of reduced form in one reading of the store.
 pub mod Stages
+pub mod Singular
 pub mod Reading

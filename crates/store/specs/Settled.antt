@@ -12,12 +12,12 @@
 --     values_of o              the values that a standing gives
 --     settle_answer            what `settle` answers
 --     Settles G store i        what the answer says: of the coefficients that reproduce the store, and of filing the entry
-use Rattle.std.specs.Prelude.{◌≡◌, Bool, cond, ◌↔◌, ◌≢◌, List, [], ◌∷◌, ℕ, ◌+◌, ◌-◌, ◌*◌, ◌%◌, ◌<◌, ltb, length}
+use Rattle.std.specs.Prelude.{◌≡◌, Bool, cond, ◌↔◌, ◌≢◌, List, [], ◌∷◌, ℕ, ◌+◌, ◌-◌, ◌*◌, ◌%◌, ◌<◌, ltb, length, Result, Ok, Err}
 use Rattle.lists.specs.Places.{sum, at}
 use Rattle.field.specs.Residues.{Residues}
 use Rattle.plan.specs.declared.admission.Own.TheVariants.{Store}
 use Rattle.plan.specs.Numbers.{columns}
-use Rattle.plan.specs.Causes.{first, Answer, gives, refuses, answer}
+use Rattle.plan.specs.Causes.{first, Answer, answer, answer_with}
 use Rattle.plan.specs.Parts.{Given, call_causes}
 use Rattle.plan.specs.Rows.{entry_cause}
 use Rattle.plan.specs.Equation.{reproduced}
@@ -25,9 +25,10 @@ use Rattle.store.specs.Elimination.{Solves, residual, lead, cells}
 use Rattle.store.specs.Calls as filing
 use Rattle.store.specs.Calls.{equation, store_cause, file_answer}
 use Rattle.store.specs.declared.elimination.Filed.TheVariants.{New, Implied}
-use Rattle.store.specs.declared.elimination.Filed.TheVariants as filed
 use Rattle.store.specs.declared.settling.Settled.{Settled}
-use Rattle.store.specs.declared.settling.Settled.TheVariants.{Forced, Free, Refused}
+use Rattle.store.specs.declared.settling.Settled.TheVariants.{Forced, Free}
+use Rattle.plan.specs.declared.refusal.Refusal.{Refusal}
+use Rattle.plan.specs.declared.refusal.Refusal.TheVariants.{Contradiction}
 
 pub data Standing : Type 0 where
   forced free : ℕ → Standing
@@ -62,10 +63,12 @@ settle_own store i G = store_cause G.numbers store ∷ entry_cause G i ∷ []
 abbrev pub settle_causes : Given → List ℕ → ℕ → List (ℕ × Bool)
 settle_causes G store i = call_causes G (Store (length store)) (settle_own store i)
 
-abbrev pub answer_of : Settled → Answer
-answer_of (Forced v) = gives (0 ∷ v ∷ [])
-answer_of (Free c) = gives (1 ∷ c ∷ [])
-answer_of (Refused k) = refuses k
+abbrev pub told : Settled → List ℕ
+told (Forced v) = 0 ∷ v ∷ []
+told (Free c) = 1 ∷ c ∷ []
+
+abbrev pub answer_of : Result Settled Refusal → Answer
+answer_of a = answer_with told a
 
 abbrev pub values_of : Standing → List ℕ
 values_of (forced v) = 0 ∷ v ∷ []
@@ -79,11 +82,11 @@ settle_answer G store i = answer (first (settle_causes G store i)) (values_of (s
 -- "clearing the row from the left may stop". Filing a value below s tells the same: it implies the forced residue and contradicts any other value,
 -- and is new with the free column, whatever the value
 pub record Settles (G : Given) (store : List ℕ) (i : ℕ) : Type 0 where
-  pub when-forced : (v : ℕ) → (settle_answer G store i ≡ answer_of (Forced v)) ↔ Gives G store i v
-  pub when-free : ((c : ℕ) × (settle_answer G store i ≡ answer_of (Free c))) ↔ ((v : ℕ) → Gives G store i v → ⊥)
-  pub stops : (c : ℕ) → (settle_answer G store i ≡ answer_of (Free c))
+  pub when-forced : (v : ℕ) → (settle_answer G store i ≡ answer_of (Ok (Forced v))) ↔ Gives G store i v
+  pub when-free : ((c : ℕ) × (settle_answer G store i ≡ answer_of (Ok (Free c)))) ↔ ((v : ℕ) → Gives G store i v → ⊥)
+  pub stops : (c : ℕ) → (settle_answer G store i ≡ answer_of (Ok (Free c)))
       ↔ FirstOpen G.numbers.p (columns G.numbers) (cells (columns G.numbers) store) (equation G i 0) c
-  pub implied : (v : ℕ) → v < G.numbers.s → (settle_answer G store i ≡ answer_of (Forced v)) ↔ (file_answer G store i v ≡ filing.answer_of Implied)
-  pub contradicted : (u v : ℕ) → v < G.numbers.s → settle_answer G store i ≡ answer_of (Forced u) → v ≢ u
-      → file_answer G store i v ≡ filing.answer_of (filed.Refused 9)
-  pub new : (c v : ℕ) → v < G.numbers.s → (settle_answer G store i ≡ answer_of (Free c)) ↔ (file_answer G store i v ≡ filing.answer_of (New c))
+  pub implied : (v : ℕ) → v < G.numbers.s → (settle_answer G store i ≡ answer_of (Ok (Forced v))) ↔ (file_answer G store i v ≡ filing.answer_of (Ok Implied))
+  pub contradicted : (u v : ℕ) → v < G.numbers.s → settle_answer G store i ≡ answer_of (Ok (Forced u)) → v ≢ u
+      → file_answer G store i v ≡ filing.answer_of (Err Contradiction)
+  pub new : (c v : ℕ) → v < G.numbers.s → (settle_answer G store i ≡ answer_of (Ok (Free c))) ↔ (file_answer G store i v ≡ filing.answer_of (Ok (New c)))

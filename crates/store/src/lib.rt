@@ -6,6 +6,7 @@
 // layout of C-16, whose moves are in `moves`; the theory of elimination is in proofs/, and what follows from it of rows, moves and ranks in `laws`.
 #![tactic(auto)]
 
+mod against;
 mod calls;
 mod elimination;
 mod reduced;

@@ -50,6 +50,7 @@ fn take_rows(tops: &mut [u8], store: &[u8], c: usize, p: u8) -> bool
     let width = c + 1;
     let mut sound = true;
     let mut begin: usize = 0;
+    // A while: as a `for`, compiled by rustc, the test of 1,000 columns with few rows took 1.3 times as long; all_zero is taken in another way.
     let mut q: usize = 0;
     while q < c {
         let end = begin + (width - q);

@@ -1,8 +1,7 @@
 -- The end of a text, from the code's state.
 --     finish-stopped, finish-broken, finish-early, finish-filed      what is printed, by the stage and the bytes held
---     entries-inside, filed-sound      at the entries, the parts and the store are as the listing needs them
---     read-front, read-back, read-part, read-residues      the coefficients in a local array
---     prints                       what is printed equals a definition
+--     entries-fit, filed-sound         at the entries, the parts and the store are as the listing needs them
+--     read_back, read-part, read-residues      the coefficients in a local array
 --     sound-state, prints-meaning      what `finish` asks for and prints, after all bytes of a text
 -- Assumes nothing.
 use mathlib.Core.Path.{◌≡◌, refl, sym, ap, subst, ◌∙◌}
@@ -10,106 +9,103 @@ use mathlib.Core.List.{List, [], ◌∷◌, ◌++◌}
 use Prim.Native.Nat.{ℕ, ◌≤◌, ◌<◌}
 use native.Mathlib.Nat.{pos_of_ne-zero}
 use native.Mathlib.Omega.{arith}
-use lib.ListN.{length, take, length-append}
+use lib.ListN.{length, take}
 use lib.Seq.{take_at, length-take-le}
-use Rattle.lists.specs.Places.{placed}
+use Rattle.std.specs.Prelude.{Result, Ok, Err, IfOk}
 use Rattle.lists.proofs.Tabs.{tab-length}
 use Rattle.field.specs.Residues.{Residues}
 use Rattle.plan.specs.declared.numbers.Plan.{Plan}
 use Rattle.plan.specs.Numbers.{columns, Within}
-use Rattle.plan.specs.Parts.{lend, store_size, Lent}
+use Rattle.plan.specs.Causes.{number}
+use Rattle.plan.specs.Parts.{store_size, Lent}
+use Rattle.plan.specs.declared.refusal.Refusal.{Refusal}
 use Rattle.plan.proofs.Bounds.{prime-low}
 use Rattle.store.specs.Stages.{Ready}
 use Rattle.store.specs.Elimination.{read_off, cells}
 use Rattle.store.specs.Calls.{coefficients}
 use Rattle.store.proofs.ReadingOff.{solution-residues}
 use Rattle.listing.specs.Printed.{listing, refused}
-use Rattle.text.specs.Meaning.{Judged, ended, meaning}
-use Rattle.text.specs.Streaming.{State, start, pushes, finish}
-use Rattle.text.specs.Progress.{judged_of, Planned, Fits, stated, state_of, BufferSizes}
+use Rattle.text.specs.Meaning.{ended, meaning}
+use Rattle.text.specs.Streaming.{State, reading, start, pushes, finish}
+use Rattle.text.specs.Progress.{read_of, FilledTo, Fits}
+use Rattle.text.specs.Held.{judged_at, place_at, stated, state_of, state_at}
 use Rattle.text.specs.Sound.{Sound, SoundState}
+use Rattle.text.specs.declared.buffers.Buffers.{Buffers}
+use Rattle.text.specs.declared.buffers.SharedBuffers.{SharedBuffers}
+use Rattle.text.specs.declared.stages.Filled.{Filled}
 use Rattle.text.specs.declared.stages.Stage.{Stage}
-use Rattle.text.specs.declared.stages.Stage.TheVariants.{Names, Header, Radices, Weights, Table, Product, EntryNames, Entries, Stopped}
-use Rattle.text.specs.declared.turns.State as code
+use Rattle.text.specs.declared.stages.Stage.TheVariants.{Names, Header, Radices, Weights, Table, Product, EntryNames, Entries}
+use Rattle.text.specs.declared.state.State as code
 use Rattle.text.proofs.Streaming.{streamed}
 use Rattle.text.proofs.Soundness.{sound-pushes, lent}
 
-module _ (j : ℕ) (R w T d S : List ℕ) where
-  broken : (stage : Stage) (held : List ℕ) → ((k : ℕ) → stage ≡ Stopped k → ⊥) → 0 < length held → refused 13 j ≡ finish (stated j held (judged_of stage R w T d S))
+module _ (state : code.State) (V : SharedBuffers) where
+  pub finish-stopped : (r : Refusal) (k : ℕ) → state.stage ≡ Err r → k ≡ number r → refused k state.line ≡ finish (state_at state V)
   unfolding finish
-  broken stage [] h l = absurd (omega arith)
-  broken Names (x ∷ xs) h l = refl
-  broken Header (x ∷ xs) h l = refl
-  broken (Radices P) (x ∷ xs) h l = refl
-  broken (Weights P k a b) (x ∷ xs) h l = refl
-  broken (Table P k a b) (x ∷ xs) h l = refl
-  broken (Product P k a b c) (x ∷ xs) h l = refl
-  broken (EntryNames P a b c) (x ∷ xs) h l = refl
-  broken (Entries P a b c) (x ∷ xs) h l = refl
-  broken (Stopped k) (x ∷ xs) h l = absurd (h k refl)
+  finish-stopped r k e n = ap (λ (j : ℕ). refused j state.line) n ∙ sym (ap (λ (a : Result Stage Refusal). finish (stated state.line (take state.held V.line.now) (judged_at a V))) e)
 
-  early : (stage : Stage) → ((k : ℕ) → stage ≡ Stopped k → ⊥) → ((P : Plan) (a b c : ℕ) → stage ≡ Entries P a b c → ⊥) → refused 13 j ≡ finish (stated j [] (judged_of stage R w T d S))
-  unfolding finish ended
-  early Names h g = refl
-  early Header h g = refl
-  early (Radices P) h g = refl
-  early (Weights P k a b) h g = refl
-  early (Table P k a b) h g = refl
-  early (Product P k a b c) h g = refl
-  early (EntryNames P a b c) h g = refl
-  early (Entries P a b c) h g = absurd (g P a b c refl)
-  early (Stopped k) h g = absurd (h k refl)
-
-module _ (state : code.State) (line R w T d S : List ℕ) where
-  pub finish-stopped : (k : ℕ) → state.stage ≡ Stopped k → refused k state.line ≡ finish (state_of state line R w T d S)
+  pub finish-broken : (stage : Stage) (k : ℕ) → state.stage ≡ Ok stage → (state.held ≡ 0 → ⊥) → k ≡ 13 → refused k state.line ≡ finish (state_at state V)
   unfolding finish
-  finish-stopped k e = sym (ap (λ (s : Stage). finish (stated state.line (take state.held line) (judged_of s R w T d S))) e)
+  finish-broken stage k e n is =
+      let inside : state.held ≤ length V.line.now = omega (arith, state.held_bound, V.line_room) in
+      ap (λ (j : ℕ). refused j state.line) is
+      ∙ by (take state.held V.line.now) (rw (length-take-le state.held V.line.now inside) (pos_of_ne-zero n))
+      ∙ sym (ap (λ (a : Result Stage Refusal). finish (stated state.line (take state.held V.line.now) (judged_at a V))) e)
+    where
+      by : (held : List ℕ) → 0 < length held → refused 13 state.line ≡ finish (reading state.line held (place_at stage V))
+      by [] l = absurd (omega arith)
+      by (x ∷ xs) l = refl
 
-  pub finish-broken : ((k : ℕ) → state.stage ≡ Stopped k → ⊥) → (state.held ≡ 0 → ⊥) → state.held ≤ 1024 → 1024 ≤ length line
-      → refused 13 state.line ≡ finish (state_of state line R w T d S)
-  finish-broken h n a b =
-      let inside : state.held ≤ length line = omega arith in
-      let some : 0 < state.held = pos_of_ne-zero n in
-      broken state.line R w T d S state.stage (take state.held line) h (rw (length-take-le state.held line inside) some)
+  module _ (stage : Stage) (e : state.stage ≡ Ok stage) (none : state.held ≡ 0) where
+    ends : finish (state_at state V) ≡ ended (place_at stage V) state.line
+    unfolding finish
+    ends =
+        ap (λ (a : Result Stage Refusal). finish (stated state.line (take state.held V.line.now) (judged_at a V))) e
+        ∙ ap (λ (n : ℕ). finish (reading state.line (take n V.line.now) (place_at stage V))) none
 
-  module _ (none : state.held ≡ 0) where
-    nothing-held : (o : Judged) → finish (stated state.line [] o) ≡ finish (stated state.line (take state.held line) o)
-    nothing-held o = ap (λ (n : ℕ). finish (stated state.line (take n line) o)) (sym none)
+    pub finish-early : (k : ℕ) → ((Q : Filled) → stage ≡ Entries Q → ⊥) → k ≡ 13 → refused k state.line ≡ finish (state_at state V)
+    unfolding ended
+    finish-early k g is = ap (λ (j : ℕ). refused j state.line) is ∙ by stage g ∙ sym ends
+      where
+        by : (s : Stage) → ((Q : Filled) → s ≡ Entries Q → ⊥) → refused 13 state.line ≡ ended (place_at s V) state.line
+        by Names g = refl
+        by Header g = refl
+        by (Radices P) g = refl
+        by (Weights Q k) g = refl
+        by (Table Q k) g = refl
+        by (Product Q j) g = refl
+        by (EntryNames Q) g = refl
+        by (Entries Q) g = absurd (g Q refl)
 
-    pub finish-early : ((k : ℕ) → state.stage ≡ Stopped k → ⊥) → ((P : Plan) (a b c : ℕ) → state.stage ≡ Entries P a b c → ⊥)
-        → refused 13 state.line ≡ finish (state_of state line R w T d S)
-    finish-early h g = early state.line R w T d S state.stage h g ∙ nothing-held (judged_of state.stage R w T d S)
-
-    pub finish-filed : (P : Plan) (a b c size : ℕ) → state.stage ≡ Entries P a b c → size ≡ store_size (columns P)
-        → listing P (take a w) (take c d) (coefficients (columns P) (take size S)) ≡ finish (state_of state line R w T d S)
-    unfolding finish ended
-    finish-filed P a b c size e h =
-        ap (λ (n : ℕ). listing P (take a w) (take c d) (coefficients (columns P) (take n S))) h
-        ∙ sym (ap (λ (s : Stage). finish (stated state.line [] (judged_of s R w T d S))) e)
-        ∙ nothing-held (judged_of state.stage R w T d S)
+    pub finish-filed : (Q : Filled) (size : ℕ) → stage ≡ Entries Q → size ≡ store_size (columns Q.plan)
+        → listing Q.plan (take Q.weights V.weights.now) (take Q.products V.products.now) (coefficients (columns Q.plan) (take size V.store.now)) ≡ finish (state_at state V)
+    unfolding ended
+    finish-filed Q size h s =
+        ap (λ (n : ℕ). listing Q.plan (take Q.weights V.weights.now) (take Q.products V.products.now) (coefficients (columns Q.plan) (take n V.store.now))) s
+        ∙ sym (ap (λ (g : Stage). ended (place_at g V) state.line) h)
+        ∙ sym ends
 
   -- at the entries, what is filled lies within its buffer
-  pub entries-inside : (P : Plan) (a b c : ℕ) → state.stage ≡ Entries P a b c → Fits state.stage → BufferSizes R w T d S
-      → Planned P × (a ≤ length w) × (c ≤ length d)
-  entries-inside P a b c e f room =
-      let fits = subst Fits e f in
-      (fits.0, omega (arith, fits.1, room.weights-room), omega (arith, fits.3, room.products-room))
+  pub entries-fit : (stage : Stage) (Q : Filled) → state.stage ≡ Ok stage → stage ≡ Entries Q → FilledTo Q 4096 16384 2048
+  entries-fit stage Q e h = subst Fits h (subst (λ (a : Result Stage Refusal). IfOk a Fits) e state.fits)
 
-  pub filed-sound : (P : Plan) (a b c size : ℕ) → state.stage ≡ Entries P a b c → size ≡ store_size (columns P) → SoundState (state_of state line R w T d S)
-      → Lent (lend P (take P.n R) (take a w) (take b T) (take c d)) × Ready P.p (columns P) (take size S)
+  -- and it is as the listing needs it
+  pub filed-sound : (stage : Stage) (Q : Filled) (size : ℕ) → state.stage ≡ Ok stage → stage ≡ Entries Q → size ≡ store_size (columns Q.plan)
+      → SoundState (state_at state V)
+      → Lent (read_of Q V.radices.now V.weights.now V.tables.now V.products.now) × Ready Q.plan.p (columns Q.plan) (take size V.store.now)
   unfolding Sound SoundState
-  filed-sound P a b c size e h s =
-      let at-entries = subst (λ (g : Stage). SoundState (stated state.line (take state.held line) (judged_of g R w T d S))) e s in
-      (lent (lend P (take P.n R) (take a w) (take b T) (take c d)) at-entries.0, subst (λ (n : ℕ). Ready P.p (columns P) (take n S)) (sym h) at-entries.1)
+  filed-sound stage Q size e h z s =
+      let at-stage = subst (λ (a : Result Stage Refusal). SoundState (stated state.line (take state.held V.line.now) (judged_at a V))) e s in
+      let at-entries = subst (λ (g : Stage). Sound (place_at g V)) h at-stage in (
+        lent (read_of Q V.radices.now V.weights.now V.tables.now V.products.now) at-entries.0,
+        subst (λ (n : ℕ). Ready Q.plan.p (columns Q.plan) (take n V.store.now)) (sym z) at-entries.1,
+      )
 
 -- coefficients read off into the front of an array
 module _ (P : Plan) (store out rest : List ℕ) (n : ℕ) (sized : n ≡ columns P) (read : out ≡ coefficients n store) where
   read_length : length out ≡ n
   unfolding coefficients
   read_length = ap length read ∙ tab-length n (read_off n (cells n store))
-
-  pub read-front : n ≤ length (out ++ rest)
-  read-front = rw length-append (omega (arith, read_length))
 
   pub read_back : take n (out ++ rest) ≡ coefficients (columns P) store
   read_back = take_at out rest n read_length ∙ read ∙ ap (λ (k : ℕ). coefficients k store) sized
@@ -124,19 +120,14 @@ module _ (P : Plan) (store out rest : List ℕ) (n : ℕ) (sized : n ≡ columns
     subst (Residues P.p) (sym read_back) (solution-residues P.p (columns P) (cells (columns P) store) ready.reduced (omega (arith, prime-low within))),
   )
 
--- what is printed, with what the definition says in place of what was printed
-pub prints : (out exit xs ys : List ℕ) (r : ℕ) → xs ≡ ys → exit ≡ placed out 0 xs → r ≡ length xs → (exit ≡ placed out 0 ys) × (r ≡ length ys)
-prints out exit xs ys r e h l = (h ∙ ap (λ (zs : List ℕ). placed out 0 zs) e, l ∙ ap length e)
-
 -- all bytes of a text, from the start
-module _ (first last : code.State) (text line R w T d S line' R' w' T' d' S' : List ℕ) (begins : state_of first line R w T d S ≡ start)
-    (read : state_of last line' R' w' T' d' S' ≡ pushes (state_of first line R w T d S) text) where
-  all_read : state_of last line' R' w' T' d' S' ≡ pushes start text
+module _ (first last : code.State) (text : List ℕ) (B B' : Buffers) (begins : state_of first B ≡ start) (read : state_of last B' ≡ pushes (state_of first B) text) where
+  all_read : state_of last B' ≡ pushes start text
   all_read = read ∙ ap (λ (s : State). pushes s text) begins
 
-  pub sound-state : SoundState (state_of last line' R' w' T' d' S')
+  pub sound-state : SoundState (state_of last B')
   unfolding SoundState Sound
   sound-state = subst SoundState (sym all_read) (sound-pushes start text tt)
 
-  pub prints-meaning : finish (state_of last line' R' w' T' d' S') ≡ meaning text
+  pub prints-meaning : finish (state_of last B') ≡ meaning text
   prints-meaning = ap finish all_read ∙ streamed text

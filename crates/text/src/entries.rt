@@ -1,109 +1,71 @@
 // The entries of a text: the names line that empties the store, and the filing of each entry as it is read.
-ghost use Rattle.std.specs.Prelude.{◌≡◌, List, ℕ, ◌≤◌, length, take};
-ghost use Rattle.plan.specs.Numbers.{columns};
-ghost use Rattle.plan.specs.Parts.{lend, store_size};
+ghost use Rattle.std.specs.Prelude.{◌≡◌, List, ℕ, ◌≤◌, length, IfOk};
+ghost use Rattle.plan.specs.Causes.{first, leaves, refusal_of};
+ghost use Rattle.plan.specs.Lending.{given_of};
 ghost use Rattle.text.specs.Meaning as meaning;
-ghost use Rattle.plan.specs.Causes.{first, leaves, number_of};
-ghost use Rattle.store.specs.Calls.{answer_of};
-ghost use Rattle.text.specs.Progress.{judged_of, Fits};
+ghost use Rattle.text.specs.Progress.{read_of, place_of, judged_of, Fits};
 
-use crate::stages::Stage;
-use lines::{read_line, same};
-use plan::Plan;
-use store::Filed;
+use crate::stages::{Filled, Stage};
+use lines::read_line;
+use plan::{LentPlan, Refusal, store_size};
 
 // The names line of the entries, behind which the store is empty.
-pub fn pair_line(plan: Plan, a: usize, b: usize, c: usize, line: &[u8], store: &mut [u8]) -> Stage
-    requires fits { Fits (Stage.EntryNames plan a b c) }
+pub fn pair_line(filled: Filled, line: &[u8], store: &mut [u8]) -> Result<Stage, Refusal>
+    requires fits { Fits (Stage.EntryNames filled) }
     requires in_bounds { 65536 ≤ length store.old }
-    ensures fits_after { Fits result }
-    ensures judgement { (R w T d : List ℕ) → judged_of result R w T d store.new ≡ meaning.judged (meaning.entry_names (lend plan (take plan.n R) (take a w) (take b T) (take c d))) line.now }
+    ensures fits_after { IfOk result Fits }
+    ensures judgement { (R w T d : List ℕ) → judged_of result R w T d store.new ≡ meaning.judged (meaning.entry_names (read_of filled R w T d)) line.now }
 {
-    if !same(line, b"entry value") {
-        return Stage::Stopped(13);
+    if line != b"entry value".as_slice() {
+        return Err(Refusal::Line);
     }
-    let size = store::store_size(plan.columns());
-    field::clear(&mut store[..size]);
-    Stage::Entries(plan, a, b, c)
+    let size = store_size(filled.plan.columns());
+    store[..size].fill(0);
+    Ok(Stage::Entries(filled))
 }
 
-// 01's number for an answer of filing: 0 where the entry is kept.
-fn number_of(filed: Filed) -> u8
-    ensures { result ≡ number_of (answer_of filed) }
-{
-    match filed {
-        Filed::New(_) => 0,
-        Filed::Implied => 0,
-        Filed::Refused(k) => k,
-    }
-}
-
-// An entry: 13, then the causes of filing it, or 0 with the entry filed. A refusal leaves the store as it was.
-fn entry_line(
-    plan: Plan,
-    line: &[u8],
-    radices: &[u8],
-    weights: &[u8],
-    tables: &[u8],
-    d: &[u8],
-    store: &mut [u8],
-) -> u8
-    ensures r_value { result ≡ first (meaning.entry_causes (lend plan radices.now weights.now tables.now d.now) store.old line.now) }
-    ensures store_after { store.new ≡ leaves result (meaning.entered (lend plan radices.now weights.now tables.now d.now) store.old line.now) store.old }
+// An entry: 13, then the causes of filing it, or the entry is filed. A refusal leaves the store as it was.
+fn entry_line(lent: &LentPlan, line: &[u8], store: &mut [u8]) -> Result<(), Refusal>
+    ensures refusal { refusal_of result ≡ first (meaning.entry_causes (given_of lent.now) store.old line.now) }
+    ensures store_after { store.new ≡ leaves (refusal_of result) (meaning.entered (given_of lent.now) store.old line.now) store.old }
 {
     let mut v = [0usize; 2];
     if !read_line(line, 5, &mut v) {
-        return 13;
+        return Err(Refusal::Line);
     }
-    let filed = store::file(
-        plan.p as usize,
-        plan.s as usize,
-        plan.n,
-        plan.m,
-        plan.t,
-        radices,
-        weights,
-        tables,
-        d,
-        store,
-        v[0],
-        v[1],
-    );
-    number_of(filed)
+    store::file(lent, store, v[0], v[1])?;
+    Ok(())
 }
 
-// An entry line at its place in the buffers.
+// An entry line, with the plan as it stands in the buffers.
 pub fn entries_line(
-    plan: Plan,
-    a: usize,
-    b: usize,
-    c: usize,
+    filled: Filled,
     line: &[u8],
     radices: &[u8],
     weights: &[u8],
     tables: &[u8],
-    d: &[u8],
+    products: &[u8],
     store: &mut [u8],
-) -> Stage
-    requires fits { Fits (Stage.Entries plan a b c) }
-    requires n_in_bounds { (plan.n ≤ length radices.now) × (a ≤ length weights.now) × (b ≤ length tables.now) × (c ≤ length d.now) }
+) -> Result<Stage, Refusal>
+    requires fits { Fits (Stage.Entries filled) }
+    requires parts_room { (64 ≤ length radices.now) × (4096 ≤ length weights.now) × (16384 ≤ length tables.now) × (2048 ≤ length products.now) }
     requires in_bounds { 65536 ≤ length store.old }
-    ensures fits_after { Fits result }
-    ensures store_after { judged_of result radices.now weights.now tables.now d.now store.new ≡ meaning.judged (meaning.entries (lend plan (take plan.n radices.now) (take a weights.now) (take b tables.now) (take c d.now)) (take (store_size (columns plan)) store.old)) line.now }
+    ensures fits_after { IfOk result Fits }
+    ensures judgement { judged_of result radices.now weights.now tables.now products.now store.new ≡ meaning.judged (place_of (Stage.Entries filled) radices.now weights.now tables.now products.now store.old) line.now }
 {
-    let size = store::store_size(plan.columns());
-    let n = plan.n;
-    let cause = entry_line(
-        plan,
-        line,
-        &radices[..n],
-        &weights[..a],
-        &tables[..b],
-        &d[..c],
-        &mut store[..size],
-    );
-    if cause != 0 {
-        return Stage::Stopped(cause);
-    }
-    Stage::Entries(plan, a, b, c)
+    let plan = filled.plan;
+    let lent = LentPlan {
+        p: plan.p as usize,
+        s: plan.s as usize,
+        n: plan.n,
+        m: plan.m,
+        t: plan.t,
+        radices: &radices[..plan.n],
+        weights: &weights[..filled.weights],
+        tables: &tables[..filled.tables],
+        products: &products[..filled.products],
+    };
+    let size = store_size(plan.columns());
+    entry_line(&lent, line, &mut store[..size])?;
+    Ok(Stage::Entries(filled))
 }

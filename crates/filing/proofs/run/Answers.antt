@@ -1,28 +1,32 @@
 -- `filing::run` meets its contract: where the end of the input was reached, what `finish` prints is the meaning of the bytes that were fed.
-use Rattle.filing.proofs.Chunks.{fed-sound, printed-end, printed-none, known}
+use Rattle.std.proofs.Common.{◌∙◌, ap}
+use Rattle.std.specs.Result.{result_from_control_flow}
+use Rattle.filing.proofs.Chunks.{fed-sound, printed-ended, printed-stopped, known}
 use Rattle.filing.proofs.run.Goals as goal
 
-pub print_end-written-requires-clause-sound_state : goal.print_end-written-requires-clause-sound_state
-print_end-written-requires-clause-sound_state g c = fed-sound c.read_all-input.ensures.fed
+pub print_end-requires : goal.print_end-requires
+print_end-requires g c = record { sound_state = fed-sound c.read_all-read.ensures.fed }
 
-pub returns-in-Reached-clause-printed : goal.returns-in-Reached-clause-printed
-returns-in-Reached-clause-printed g c =
-    let read = c.read_all-input.ensures in
-    let end = c.print_end-written.ensures in
-    printed-end read.fed c.in-Reached.is read.ended end.out_after end.written
+pub returns-clause-printed : goal.returns-clause-printed
+returns-clause-printed g c =
+    let reads = c.read_all-read.ensures in
+    let ended = c.branch-read.ensures ∙ ap result_from_control_flow c.in_ok-read.is in
+    printed-ended reads.fed ended reads.ended c.print_end.ensures.out_after c.print_end.result c.print_end.ensures.written c.map_err.result c.map_err.ensures.cases
 
-pub returns-in-Reached-clause-known : goal.returns-in-Reached-clause-known
-returns-in-Reached-clause-known g c =
-    let read = c.read_all-input.ensures in
-    let end = c.print_end-written.ensures in
-    known _ _ _ (printed-end read.fed c.in-Reached.is read.ended end.out_after end.written)
+pub returns-clause-known : goal.returns-clause-known
+returns-clause-known g c =
+    let reads = c.read_all-read.ensures in
+    let ended = c.branch-read.ensures ∙ ap result_from_control_flow c.in_ok-read.is in
+    known _ _ c.map_err.result (printed-ended reads.fed ended reads.ended c.print_end.ensures.out_after c.print_end.result c.print_end.ensures.written c.map_err.result c.map_err.ensures.cases)
 
-pub returns-in_default-clause-printed : goal.returns-in_default-clause-printed
-returns-in_default-clause-printed g c =
-    let read = c.read_all-input.ensures in
-    printed-none read.fed c.in_default.not-Reached read.ended
+pub returns-in_err-read-clause-printed : goal.returns-in_err-read-clause-printed
+returns-in_err-read-clause-printed g c =
+    let reads = c.read_all-read.ensures in
+    let stopped = c.branch-read.ensures ∙ ap result_from_control_flow c.in_err-read.is in
+    printed-stopped reads.fed stopped reads.ended c.from_residual.result c.from_residual.ensures.1
 
-pub returns-in_default-clause-known : goal.returns-in_default-clause-known
-returns-in_default-clause-known g c =
-    let read = c.read_all-input.ensures in
-    known _ _ _ (printed-none read.fed {out = c.args.out.now} c.in_default.not-Reached read.ended)
+pub returns-in_err-read-clause-known : goal.returns-in_err-read-clause-known
+returns-in_err-read-clause-known g c =
+    let reads = c.read_all-read.ensures in
+    let stopped = c.branch-read.ensures ∙ ap result_from_control_flow c.in_err-read.is in
+    known _ _ c.from_residual.result (printed-stopped reads.fed {out = c.args.room.now.out.now} stopped reads.ended c.from_residual.result c.from_residual.ensures.1)

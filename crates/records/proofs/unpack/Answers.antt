@@ -18,10 +18,7 @@ done n i l s t over same =
     rw e at same
 
 pub loop-i-preserved : goal.loop-i-preserved
-loop-i-preserved c = record {
-  within = omega arith;
-  same = rw c.note.ensures (sym (taken _ _ _ _ c.loop-i-test.true) ∙ c.loop-i.invariant.same);
-}
+loop-i-preserved c = rw c.note.ensures (sym (taken _ _ _ _ c.loop-i-test.true) ∙ c.loop-i.invariant)
 
 pub returns : goal.returns
-returns c = (refl, done _ _ _ _ _ c.loop-i-test.false c.loop-i.invariant.same)
+returns c = (refl, done _ _ _ _ _ c.loop-i-test.false c.loop-i.invariant)

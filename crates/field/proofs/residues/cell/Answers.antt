@@ -4,7 +4,6 @@ use mathlib.Core.Path.{refl}
 use Prim.Native.Nat.{ℕ, ◌+◌, ◌*◌, ◌/◌, ◌≤◌, ◌<◌}
 use native.Mathlib.Nat.{mul-le-mul}
 use native.Mathlib.Omega.{arith}
-use borrow.Author.Rules.{rules}
 use Rattle.field.proofs.Reduction.{quotient-low, quotient-high, below, above, reciprocal-small}
 use Rattle.field.proofs.residues.cell.Goals as goal
 
@@ -66,17 +65,11 @@ pub overflow_sub-r : goal.overflow_sub-r
 unfolding v q
 overflow_sub-r c = low c
 
-pub overflow_cast-result : goal.overflow_cast-result
-overflow_cast-result c = search rules
-
 pub returns-then-r-p : goal.returns-then-r-p
 unfolding v q
 returns-then-r-p c =
     let s = c.before in
     below 65536 s.args.p (v s) s.args.m (q s) (positive s) (small s) s.requires.m_value refl c.if-r-p.true
-
-pub overflow_sub-result : goal.overflow_sub-result
-overflow_sub-result c = search rules
 
 pub overflow_cast-result-3 : goal.overflow_cast-result-3
 unfolding v q

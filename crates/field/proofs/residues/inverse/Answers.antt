@@ -6,17 +6,8 @@ use Rattle.field.specs.Residues as specs
 use Rattle.field.proofs.Powers.{square-turn}
 use Rattle.field.proofs.residues.inverse.Goals as goal
 
-pub reciprocal-m-requires : goal.reciprocal-m-requires
-reciprocal-m-requires c = c.requires.modulus
-
-pub overflow_sub-e : goal.overflow_sub-e
-overflow_sub-e c = omega arith
-
 pub loop-e-init : goal.loop-e-init
 loop-e-init c = (omega arith, omega arith, ap (λ (n : ℕ). n % c.args.p) (one-mul _))
-
-pub odd_factor-requires : goal.odd_factor-requires
-odd_factor-requires c = tt
 
 pub cell-power-requires : goal.cell-power-requires
 cell-power-requires c =
@@ -36,9 +27,6 @@ cell-base-requires c =
       m_value = reciprocal.ensures;
       x_lt_p = (omega arith, loop.invariant.1, omega arith);
     }
-
-pub loop-e-smaller : goal.loop-e-smaller
-loop-e-smaller c = omega arith
 
 pub loop-e-preserved : goal.loop-e-preserved
 loop-e-preserved c =

@@ -4,7 +4,6 @@ use mathlib.Core.Path.{refl}
 use Prim.Native.Nat.{ℕ, ◌+◌, ◌*◌, ◌/◌, ◌≤◌, ◌<◌}
 use native.Mathlib.Nat.{mul-le-mul}
 use native.Mathlib.Omega.{arith}
-use borrow.Author.Rules.{rules}
 use Rattle.field.proofs.Reduction.{quotient-low, quotient-high, below, above}
 use Rattle.field.proofs.residues.remainder.Goals as goal
 
@@ -45,17 +44,11 @@ pub overflow_sub-r : goal.overflow_sub-r
 unfolding q
 overflow_sub-r c = low c
 
-pub overflow_cast-result : goal.overflow_cast-result
-overflow_cast-result c = search rules
-
 pub returns-then-r-p : goal.returns-then-r-p
 unfolding q
 returns-then-r-p c =
     let s = c.before in
     below 4294967296 s.args.p s.args.v s.args.m (q s) (positive s) (small s) s.requires.m_value refl c.if-r-p.true
-
-pub overflow_sub-result : goal.overflow_sub-result
-overflow_sub-result c = search rules
 
 pub overflow_cast-result-3 : goal.overflow_cast-result-3
 unfolding q

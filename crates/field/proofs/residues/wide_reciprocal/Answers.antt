@@ -3,15 +3,8 @@
 use mathlib.Core.Path.{refl}
 use Prim.Native.Nat.{◌/◌}
 use native.Mathlib.Omega.{arith}
-use borrow.Author.Rules.{rules}
 use Rattle.field.proofs.Reduction.{reciprocal-small}
 use Rattle.field.proofs.residues.wide_reciprocal.Goals as goal
 
-pub nonzero_div-result : goal.nonzero_div-result
-nonzero_div-result c = search rules
-
 pub overflow_cast-result-2 : goal.overflow_cast-result-2
 overflow_cast-result-2 c = omega (arith, reciprocal-small 4294967296 c.args.p (4294967296 / c.args.p) (omega arith) c.requires.0 refl)
-
-pub returns : goal.returns
-returns c = search rules

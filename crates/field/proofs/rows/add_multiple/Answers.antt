@@ -6,17 +6,8 @@ use Rattle.lists.specs.Places.{at}
 use Rattle.lists.proofs.Overwrite.{written_none, written_next, unwritten, written_all}
 use Rattle.field.proofs.rows.add_multiple.Goals as goal
 
-pub reciprocal-m-requires : goal.reciprocal-m-requires
-reciprocal-m-requires c = c.requires.modulus
-
 pub loop-j-init : goal.loop-j-init
 loop-j-init c = written_none _ _ _ refl
-
-pub bounds-xs-j : goal.bounds-xs-j
-bounds-xs-j c = omega arith
-
-pub bounds-ys-j : goal.bounds-ys-j
-bounds-ys-j c = omega arith
 
 pub cell-requires : goal.cell-requires
 cell-requires c =
@@ -29,15 +20,6 @@ cell-requires c =
       m_value = reciprocal.ensures;
       x_lt_p = (rw e (pre.residues j), pre.residues_2 j, pre.g_le_p);
     }
-
-pub bounds-xs-j-in-loop-j : goal.bounds-xs-j-in-loop-j
-bounds-xs-j-in-loop-j c = omega arith
-
-pub overflow_add-j : goal.overflow_add-j
-overflow_add-j c = omega arith
-
-pub loop-j-smaller : goal.loop-j-smaller
-loop-j-smaller c = omega arith
 
 pub loop-j-preserved : goal.loop-j-preserved
 loop-j-preserved c =

@@ -1,56 +1,39 @@
-use mathlib.Core.Path.{sym, ap, ◌∙◌}
-use Prim.Native.Nat.{ℕ, ◌*◌, ◌%◌, ◌≤◌}
-use native.Mathlib.Nat.{mul-le-mul, mod-lt, le_antisymm}
-use native.Mathlib.Omega.{arith}
-use lib.ListN.{get_or}
-use Rattle.lists.proofs.Sums.{sum-zero, sum-next}
+-- `field::rows::dot` meets its contract: the products of the pairs of the two lists are those by place (`pairs`). Assumes nothing.
+use Rattle.std.proofs.Common.{rules, ◌≡◌, ◌∙◌, ap, sym, refl, ℕ, zero, suc, ◌+◌, ◌*◌, ◌%◌, List, [], ◌∷◌, length, arith}
+use Rattle.std.proofs.lemmas.Iterator.{YieldsList-from_slice, YieldsList-from_zip, YieldsList-from_map}
+use Rattle.std.proofs.lemmas.Iterator.Consumers.{YieldsList-at, sum_by_from_yields_List}
+use Rattle.std.proofs.lemmas.List.Sums.{sum_by-cons}
+use Rattle.std.specs.List.{zip, sum_by}
+use Rattle.lists.specs.Places.{sum, at}
 use Rattle.field.specs.Rows as specs
 use Rattle.field.proofs.rows.dot.Goals as goal
 
-term-small : (c : goal.After-shared_slice_known-in-loop-j-1) →
-    let args = c.args in
-    let loop = c.loop-j in
-    get_or args.ws.now loop.j 0 * get_or args.xs.now loop.j 0 ≤ 255 * 255
-term-small c =
-    let loop = c.loop-j in
-    let j = loop.j in
-    let a : get_or c.args.ws.now j 0 ≤ 255 = omega (arith, c.type_inv.ws j) in
-    let b : get_or c.args.xs.now j 0 ≤ 255 = omega (arith, c.type_inv.xs j) in
-    mul-le-mul a b
+times : ℕ × ℕ → ℕ
+times q = q.0 * q.1
 
-pub loop-j-init : goal.loop-j-init
-loop-j-init c = (omega arith, sym (sum-zero _), omega arith)
+sum-front : (f : ℕ → ℕ) (n : ℕ) → sum f (suc n) ≡ f 0 + sum (λ j. f (suc j)) n
+unfolding sum
+sum-front f zero = omega arith
+sum-front f (suc n) = omega (arith, sum-front f n)
 
-pub bounds-ws-j : goal.bounds-ws-j
-bounds-ws-j c = omega arith
-
-pub bounds-xs-j : goal.bounds-xs-j
-bounds-xs-j c = omega arith
-
-pub overflow_mul-total : goal.overflow_mul-total
-overflow_mul-total c = omega (arith, term-small c)
-
-pub overflow_add-total : goal.overflow_add-total
-overflow_add-total c = omega (arith, term-small c)
-
-pub overflow_add-j : goal.overflow_add-j
-overflow_add-j c = omega arith
-
-pub loop-j-smaller : goal.loop-j-smaller
-loop-j-smaller c = omega arith
-
-pub loop-j-preserved : goal.loop-j-preserved
-loop-j-preserved c =
-    let args = c.args in
-    let loop = c.loop-j in
-    let e = sum-next (λ k. get_or args.ws.now k 0 * get_or args.xs.now k 0) loop.j in
-    (omega arith, omega arith, omega (arith, term-small c))
-
-pub nonzero_rem-result : goal.nonzero_rem-result
-nonzero_rem-result c = omega arith
-
-pub overflow_cast-result-2 : goal.overflow_cast-result-2
-overflow_cast-result-2 c = omega (arith, mod-lt c.loop-j.total {m = c.args.p} (omega arith))
+pairs : (ws xs : List ℕ) → length xs ≡ length ws → sum_by times (zip ws xs) ≡ specs.dot ws xs (length ws)
+unfolding sum times
+pairs [] xs h = refl
+pairs (w ∷ ws) [] h = absurd (omega arith)
+pairs (w ∷ ws) (x ∷ xs) h =
+    sum_by-cons times (w, x) (zip ws xs)
+    ∙ ap (λ (n : ℕ). w * x + n) (pairs ws xs (omega arith))
+    ∙ sym (sum-front (λ j. at (w ∷ ws) j * at (x ∷ xs) j) (length ws))
 
 pub returns : goal.returns
-returns c = ap (λ (n : ℕ). n % c.args.p) (c.loop-j.invariant.1 ∙ ap (specs.dot c.args.ws.now c.args.xs.now) (le_antisymm c.loop-j.invariant.0 c.loop-j-test.false))
+unfolding times
+returns c =
+    let ws = c.args.ws.now in
+    let xs = c.args.xs.now in
+    let e : c.sum-total.result ≡ sum_by times (zip ws xs) =
+    sum_by_from_yields_List times (zip ws xs) c.map.result c.sum-total.result c.sum-total.ensures.ran
+    (YieldsList-from_map _ times
+    (YieldsList-at c.map.ensures.source (YieldsList-from_zip (YieldsList-at c.zip.ensures.first (YieldsList-from_slice ws (cc))) (YieldsList-from_slice xs (cc))))
+    c.map.ensures.closure
+    (λ x r q k. search rules)) in
+    ap (λ (n : ℕ). n % c.args.p) (e ∙ pairs ws xs c.requires.xs_len)

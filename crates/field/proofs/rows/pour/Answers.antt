@@ -9,45 +9,11 @@ use Rattle.field.proofs.rows.pour.Goals as goal
 pub loop-j-init : goal.loop-j-init
 loop-j-init c = (written_none _ _ _ refl, written_none _ _ _ refl)
 
-pub offset_bounds-acc-j : goal.offset_bounds-acc-j
-offset_bounds-acc-j c = omega arith
-
-pub bounds-acc-j : goal.bounds-acc-j
-bounds-acc-j c = omega arith
-
-pub offset_bounds-short-j : goal.offset_bounds-short-j
-offset_bounds-short-j c = omega arith
-
-pub bounds-short-j : goal.bounds-short-j
-bounds-short-j c =
+pub overflow_add-total : goal.overflow_add-total
+overflow_add-total c =
     let loop = c.loop-j in
-    omega (arith, loop.invariant.1.same)
-
-pub overflow_add-acc : goal.overflow_add-acc
-overflow_add-acc c =
-    let loop = c.loop-j in
-    let pre = c.requires in
-    omega (arith, c.slice_known-in-loop-j-1.given loop.j, unwritten loop.invariant.0 loop.j (le_refl loop.j), pre.headroom loop.j)
-
-pub offset_bounds-acc-j-in-loop-j : goal.offset_bounds-acc-j-in-loop-j
-offset_bounds-acc-j-in-loop-j c = omega arith
-
-pub bounds-acc-j-in-loop-j : goal.bounds-acc-j-in-loop-j
-bounds-acc-j-in-loop-j c = omega arith
-
-pub offset_bounds-short-j-in-loop-j : goal.offset_bounds-short-j-in-loop-j
-offset_bounds-short-j-in-loop-j c = omega arith
-
-pub bounds-short-j-in-loop-j : goal.bounds-short-j-in-loop-j
-bounds-short-j-in-loop-j c =
-    let loop = c.loop-j in
-    omega (arith, loop.invariant.1.same)
-
-pub overflow_add-j : goal.overflow_add-j
-overflow_add-j c = omega arith
-
-pub loop-j-smaller : goal.loop-j-smaller
-loop-j-smaller c = omega arith
+    let j = loop.j in
+    omega (arith, unwritten loop.invariant.0 j (le_refl j), c.requires.headroom j)
 
 pub loop-j-preserved : goal.loop-j-preserved
 loop-j-preserved c =

@@ -1,5 +1,5 @@
--- `field::rows::raise` meets its contract: an in-place loop over `larger` (`Overwrite` of lists). Assumes nothing.
-use Prim.Native.Nat.{◌-◌, max}
+-- `field::rows::raise` meets its contract: an in-place loop over the larger of two (`Overwrite` of lists). Assumes nothing.
+use Prim.Native.Nat.{max}
 use lib.ListN.{length}
 use Rattle.lists.specs.Places.{at}
 use Rattle.lists.proofs.Overwrite.{Written}
@@ -7,6 +7,3 @@ use Rattle.field.proofs.rows.raise.Given as goal
 
 abbrev pub invariant-loop-j : goal.invariant-loop-j
 invariant-loop-j l = Written (length l.initial.tops) (λ k. max (at l.initial.tops k) (at l.xs k)) l.initial.tops l.j l.tops
-
-abbrev pub decreases-loop-j : goal.decreases-loop-j
-decreases-loop-j l = length l.initial.tops - l.j

@@ -5,16 +5,10 @@ use native.Mathlib.Omega.{arith}
 use Rattle.lists.proofs.Overwrite.{written_none, written_next, written_all}
 use Rattle.field.proofs.rows.set_multiple.Goals as goal
 
-pub reciprocal-m-requires : goal.reciprocal-m-requires
-reciprocal-m-requires c = c.requires.modulus
-
 pub loop-j-init : goal.loop-j-init
 loop-j-init c =
     let pre = c.requires in
     written_none _ _ _ (sym pre.ys_len)
-
-pub bounds-ys-j : goal.bounds-ys-j
-bounds-ys-j c = omega arith
 
 pub cell-requires : goal.cell-requires
 cell-requires c =
@@ -24,15 +18,6 @@ cell-requires c =
       m_value = reciprocal.ensures;
       x_lt_p = (omega arith, pre.residues c.loop-j.j, pre.g_le_p);
     }
-
-pub bounds-out-j : goal.bounds-out-j
-bounds-out-j c = omega arith
-
-pub overflow_add-j : goal.overflow_add-j
-overflow_add-j c = omega arith
-
-pub loop-j-smaller : goal.loop-j-smaller
-loop-j-smaller c = omega arith
 
 pub loop-j-preserved : goal.loop-j-preserved
 loop-j-preserved c =

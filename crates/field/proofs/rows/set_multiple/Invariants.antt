@@ -1,5 +1,5 @@
 -- `field::rows::set_multiple` meets its contract: an in-place loop over `cell` (`Overwrite` of lists). Assumes nothing.
-use Prim.Native.Nat.{◌-◌, ◌*◌, ◌%◌}
+use Prim.Native.Nat.{◌*◌, ◌%◌}
 use lib.ListN.{length}
 use Rattle.lists.specs.Places.{at}
 use Rattle.lists.proofs.Overwrite.{Written}
@@ -7,6 +7,3 @@ use Rattle.field.proofs.rows.set_multiple.Given as goal
 
 abbrev pub invariant-loop-j : goal.invariant-loop-j
 invariant-loop-j l = Written (length l.ys) (λ k. (l.g * at l.ys k) % l.p) l.initial.out l.j l.out
-
-abbrev pub decreases-loop-j : goal.decreases-loop-j
-decreases-loop-j l = length l.ys - l.j

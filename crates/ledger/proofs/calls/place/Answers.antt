@@ -1,22 +1,29 @@
--- `ledger::calls::place` meets its contract: the entry is listed exactly when its place is in the list (`Soundness`). Assumes nothing.
-use mathlib.Core.Path.{sym, ap, ◌∙◌}
-use Prim.Native.Nat.{ℕ}
-use Rattle.ledger.specs.Stages.{pairs, placed}
-use Rattle.ledger.proofs.Soundness.{not_listed, is-listed, read_length}
-use Rattle.ledger.proofs.calls.place.Goals.{then-find-listed, else-find-listed}
+-- `ledger::calls::place` meets its contract: the entry is listed where the first pair of it is (`Rests`). Assumes nothing.
+use Rattle.std.proofs.Common.{◌∙◌, ap, ℕ}
+use Rattle.std.specs.Prelude.{Option}
+use Rattle.ledger.specs.Stages.{as_pairs, placed}
+use Rattle.ledger.proofs.Places.{place_some, place_none}
+use Rattle.ledger.proofs.Rests.{first-listed}
+use Rattle.ledger.proofs.calls.place.Goals.{in-Some, in-None}
 use Rattle.ledger.proofs.calls.place.Goals as goal
 
--- facts of all clauses as a record of them
-clauses : {A B : Type 0} → A × B → record { count_after : A; r_value : B }
-clauses all = record { count_after = all.0; r_value = all.1 }
-
-pub returns : goal.returns
-returns c =
+pub returns-clause-count_after : goal.returns-clause-count_after
+returns-clause-count_after c =
     let a = c.args in
-    let l = pairs a.count.now a.list.now in
-    let find = c.find in
-    let all = read_length a.count.now 0 a.list.now in
-    elim c.if-find-listed.branch [
-      | then-find-listed w ↦ clauses (rw (not_listed l a.entry a.count.now all (sym find.ensures ∙ w.if-find-listed.true)) (w.count-is, ap (λ (k : ℕ). placed 0 k a.entry a.value) w.at-is))
-      | else-find-listed w ↦ clauses (rw (is-listed l a.entry a.count.now all (λ e. w.if-find-listed.false (find.ensures ∙ e))) (w.count-is, ap (λ (k : ℕ). placed 0 k a.entry a.value) w.at-is))
+    let l = as_pairs a.pairs.now in
+    let first = first-listed a.entry a.pairs.now in
+    elim c.match-find.branch [
+      | in-Some w ↦ rw (place_some l a.entry _ (w.in-Some.ensures ∙ first)).0 w.count-is
+      | in-None w ↦ rw (place_none l a.entry (w.in-None.ensures ∙ first)) w.count-is
+    ]
+
+pub returns-clause-r_value : goal.returns-clause-r_value
+returns-clause-r_value c =
+    let a = c.args in
+    let l = as_pairs a.pairs.now in
+    let first = first-listed a.entry a.pairs.now in
+    let put = λ (k : Option ℕ). placed k a.entry a.value in
+    elim c.match-find.branch [
+      | in-Some w ↦ rw (place_some l a.entry _ (w.in-Some.ensures ∙ first)).0 (ap put w.at-is)
+      | in-None w ↦ rw (place_none l a.entry (w.in-None.ensures ∙ first)) (ap put w.at-is)
     ]

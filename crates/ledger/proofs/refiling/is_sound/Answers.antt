@@ -1,115 +1,55 @@
 -- `ledger::refiling::is_sound` meets its contract: the tests of the list, the filing of it, and the comparison (`Soundness`). Assumes nothing.
-use mathlib.Core.Bool.{not}
 use mathlib.Core.Path.{◌≡◌, refl, sym, ap, ◌∙◌}
-use mathlib.Core.Bool.{Bool, true, ◌&&◌}
-use mathlib.Core.List.{List}
+use mathlib.Core.Bool.{Bool, ◌&&◌, false≢true}
+use mathlib.Core.List.{List, [], ◌∷◌}
 use Prim.Native.Nat.{ℕ}
-use native.Mathlib.Omega.{arith}
-use borrow.Author.Tests.{not-true, not-false}
+use lib.Dec.{eqb}
+use lib.Pointwise.{pointwise}
 use Rattle.lists.specs.Places.{same}
 use Rattle.lists.proofs.Tests.{both_true}
-use Rattle.plan.specs.Numbers.{product}
-use Rattle.plan.specs.Parts.{Given, lend}
-use Rattle.store.specs.Calls.{empty_store}
-use Rattle.ledger.specs.Lists.{Pair, distinct, without, filed_on}
-use Rattle.ledger.specs.Stages.{pairs, ranged, consistent}
-use Rattle.ledger.proofs.Orders.{none-skipped}
-use Rattle.ledger.proofs.Soundness.{unsound, sound-is}
+use Rattle.plan.specs.Lending.{whole}
+use Rattle.ledger.specs.Stages.{as_pairs}
+use Rattle.ledger.proofs.Soundness.{unsound, sound-told}
+use Rattle.ledger.specs.Lists.{sound}
+use Rattle.ledger.proofs.refiling.is_sound.Goals.{then-well_listed, else-well_listed}
 use Rattle.ledger.proofs.refiling.is_sound.Goals as goal
 
-pub well_listed-requires : goal.well_listed-requires
-well_listed-requires c =
-    record {
-      count_in_bounds = c.requires.count_in_bounds;
-      n_in_bounds = omega (arith, c.entries-n.ensures, c.requires.lent.radices.limit);
-      seen_value = refl;
-    }
+-- the comparison of bytes
+pointwise_same : (xs ys : List ℕ) → pointwise eqb xs ys ≡ same xs ys
+unfolding same
+pointwise_same [] [] = refl
+pointwise_same [] (y ∷ ys) = refl
+pointwise_same (x ∷ xs) [] = refl
+pointwise_same (x ∷ xs) (y ∷ ys) = ap (λ (b : Bool). eqb x y && b) (pointwise_same xs ys)
 
-pub returns-then-not-well_listed : goal.returns-then-not-well_listed
-returns-then-not-well_listed c =
-    let lent : Given =
-    (let a = c.args in
-    lend a.plan a.radices.now a.weights.now a.tables.now a.d.now) in
-    let list : List Pair =
-    (pairs c.args.count c.args.list.now) in
-    let listed : let s = c in
-    c.well_listed.result ≡ (ranged (product s.args.radices.now) s.args.plan.s list && distinct list) =
-    (let s = c in
-    c.well_listed.ensures ∙ ap (λ (n : ℕ). ranged n s.args.plan.s list && distinct list) c.entries-n.ensures) in
-    let s = c in
-    unsound lent s.args.store.now list (sym listed ∙ not-true _ (ap not c.if-not-well_listed.true))
+pub refile-requires-clause-list_value : goal.refile-requires-clause-list_value
+refile-requires-clause-list_value c = (both_true _ _ (sym (rw c.entries-n.ensures at c.well_listed.ensures) ∙ c.if-well_listed.true)).0
 
-pub refile-requires : goal.refile-requires
-refile-requires c =
-    let list : List Pair =
-    (pairs c.args.count c.args.list.now) in
-    let listed : let s = c in
-    c.well_listed.result ≡ (ranged (product s.args.radices.now) s.args.plan.s list && distinct list) =
-    (let s = c in
-    c.well_listed.ensures ∙ ap (λ (n : ℕ). ranged n s.args.plan.s list && distinct list) c.entries-n.ensures) in
-    let passed : let s = c in
-    (ranged (product s.args.radices.now) s.args.plan.s list && distinct list) ≡ true =
-    (sym listed ∙ not-false _ (ap not c.if-not-well_listed.false)) in
-    let s = c in record {
-      within = s.requires.within;
-      lent = s.requires.lent;
-      count_in_bounds = s.requires.count_in_bounds;
-      list_value = (both_true (ranged (product s.args.radices.now) s.args.plan.s list) (distinct list) passed).0;
-      store_value = s.requires.work_value;
-    }
+pub returns-then-refile : goal.returns-then-refile
+returns-then-refile c =
+    let a = c.args in
+    let G = whole a.plan.now in
+    let S = a.store.now in
+    let l = as_pairs a.pairs.now in
+    let listed = rw c.entries-n.ensures at c.well_listed.ensures in
+    let compared : same S c.if-well_listed.work ≡ sound G S l = elim c.if-well_listed.branch [
+      | then-well_listed w ↦
+          let told = sound-told G S l _ _ _ c.entries-n.ensures (sym listed ∙ w.if-well_listed.true) w.refile.ensures.value w.refile.ensures.store_after in
+          rw w.work-is (sym (rw (sym w.value-is ∙ c.if-refile.true) at told))
+      | else-well_listed w ↦ absurd (false≢true (sym w.if-well_listed.false ∙ sym w.value-is ∙ c.if-refile.true))
+    ] in
+    c.eq.ensures ∙ pointwise_same S _ ∙ compared
 
-pub returns-then-not-refile : goal.returns-then-not-refile
-returns-then-not-refile c =
-    let lent : Given =
-    (let a = c.args in
-    lend a.plan a.radices.now a.weights.now a.tables.now a.d.now) in
-    let list : List Pair =
-    (pairs c.args.count c.args.list.now) in
-    let listed : let s = c in
-    c.well_listed.result ≡ (ranged (product s.args.radices.now) s.args.plan.s list && distinct list) =
-    (let s = c in
-    c.well_listed.ensures ∙ ap (λ (n : ℕ). ranged n s.args.plan.s list && distinct list) c.entries-n.ensures) in
-    let passed : let s = c in
-    (ranged (product s.args.radices.now) s.args.plan.s list && distinct list) ≡ true =
-    (sym listed ∙ not-false _ (ap not c.if-not-well_listed.false)) in
-    let whole : let s = c in
-    without list c.entries-n.result ≡ list =
-    (let s = c in
-    ap (without list) c.entries-n.ensures
-    ∙ none-skipped (product s.args.radices.now) s.args.plan.s list (both_true (ranged (product s.args.radices.now) s.args.plan.s list) (distinct list) passed).0) in
-    let s = c in
-    let G = lent in
-    let E = empty_store s.args.plan in
-    let fits = sym (ap (consistent G E) whole) ∙ sym c.refile.ensures.value ∙ not-true _ (ap not c.if-not-refile.true) in
-    ap (λ (b : Bool). b && same s.args.store.now (filed_on G E list)) (sym fits) ∙ sym (sound-is G s.args.store.now list passed)
-
-pub returns : goal.returns
-returns c =
-    let lent : Given =
-    (let a = c.args in
-    lend a.plan a.radices.now a.weights.now a.tables.now a.d.now) in
-    let list : List Pair =
-    (pairs c.args.count c.args.list.now) in
-    let listed : let s = c in
-    c.well_listed.result ≡ (ranged (product s.args.radices.now) s.args.plan.s list && distinct list) =
-    (let s = c in
-    c.well_listed.ensures ∙ ap (λ (n : ℕ). ranged n s.args.plan.s list && distinct list) c.entries-n.ensures) in
-    let passed : let s = c in
-    (ranged (product s.args.radices.now) s.args.plan.s list && distinct list) ≡ true =
-    (sym listed ∙ not-false _ (ap not c.if-not-well_listed.false)) in
-    let whole : let s = c in
-    without list c.entries-n.result ≡ list =
-    (let s = c in
-    ap (without list) c.entries-n.ensures
-    ∙ none-skipped (product s.args.radices.now) s.args.plan.s list (both_true (ranged (product s.args.radices.now) s.args.plan.s list) (distinct list) passed).0) in
-    let r = c in
-    let e = r in
-    let s = c in
-    let G = lent in
-    let E = empty_store s.args.plan in
-    let filed = r.refile in
-    let fits = sym (ap (consistent G E) whole) ∙ sym filed.ensures.value ∙ not-false _ (ap not r.if-not-refile.false) in
-    c.same.ensures
-    ∙ ap (same s.args.store.now) (filed.ensures.store_after ∙ ap (filed_on G E) whole)
-    ∙ ap (λ (b : Bool). b && same s.args.store.now (filed_on G E list)) (sym fits)
-    ∙ sym (sound-is G s.args.store.now list passed)
+pub returns-else-refile : goal.returns-else-refile
+returns-else-refile c =
+    let a = c.args in
+    let G = whole a.plan.now in
+    let S = a.store.now in
+    let l = as_pairs a.pairs.now in
+    let listed = rw c.entries-n.ensures at c.well_listed.ensures in
+    elim c.if-well_listed.branch [
+      | then-well_listed w ↦
+          let told = sound-told G S l _ _ _ c.entries-n.ensures (sym listed ∙ w.if-well_listed.true) w.refile.ensures.value w.refile.ensures.store_after in
+          c.if-refile.false ∙ sym (rw (sym w.value-is ∙ c.if-refile.false) at told)
+      | else-well_listed w ↦ w.value-is ∙ w.if-well_listed.false ∙ unsound G S l (sym listed ∙ w.if-well_listed.false)
+    ]

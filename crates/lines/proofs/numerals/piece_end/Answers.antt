@@ -1,29 +1,15 @@
-use mathlib.Core.Path.{refl}
-use native.Mathlib.Omega.{arith}
-use Rattle.lines.proofs.WordLaws.{ends-step, ends-cut, ends-past}
+-- `lines::numerals::piece_end` meets its contract. Assumes nothing.
+use Rattle.std.proofs.Common.{arith}
+use Rattle.lines.proofs.WordLaws.{cut_fits, piece-rest, piece-none}
 use Rattle.lines.proofs.numerals.piece_end.Goals as goal
 
-pub loop-end-init : goal.loop-end-init
-loop-end-init c = refl
+pub overflow_add-result : goal.overflow_add-result
+overflow_add-result c =
+    let some = c.in-Some in
+    record { fits = omega (arith, some.ensures.lookup, c.size_before.ensures, cut_fits c.args.c some.rest.now) }
 
-pub bounds-bytes-end : goal.bounds-bytes-end
-bounds-bytes-end c = omega arith
+pub returns-in-Some : goal.returns-in-Some
+returns-in-Some c = omega (arith, c.size_before.ensures, piece-rest c.args.c _ _ c.args.at c.in-Some.ensures.lookup.0.2)
 
-pub returns-then-bytes-end : goal.returns-then-bytes-end
-returns-then-bytes-end c =
-    let loop = c.loop-end in
-    ends-cut _ _ _ _ loop.invariant c.loop-end-test.true c.if-bytes-end.true
-
-pub overflow_add-end : goal.overflow_add-end
-overflow_add-end c = omega arith
-
-pub loop-end-smaller : goal.loop-end-smaller
-loop-end-smaller c = omega arith
-
-pub loop-end-preserved : goal.loop-end-preserved
-loop-end-preserved c =
-    let loop = c.loop-end in
-    ends-step _ _ _ _ loop.invariant c.loop-end-test.true c.if-bytes-end.false
-
-pub returns : goal.returns
-returns c = ends-past _ _ _ _ c.loop-end.invariant c.loop-end-test.false
+pub returns-in-None : goal.returns-in-None
+returns-in-None c = piece-none _ _ _ c.in-None.ensures.lookup.0

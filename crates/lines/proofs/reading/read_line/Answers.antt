@@ -1,46 +1,47 @@
-use Rattle.std.proofs.Common.{◌≡◌, ℕ, List, ◌∙◌, sym, ap, ◌+◌, ◌-◌, ◌<◌, ◌≤◌, length, refl, arith}
-use denote.Bor.{Bor}
-use Rattle.lines.specs.Words.{numeral_at, advanced, kept, filled, complete}
+use Rattle.std.proofs.Common.{◌≡◌, ◌∙◌, ap, arith, false, ◌<◌, ℕ, List, set, ◌+◌, refl, sym}
+use mathlib.Core.Bool.{false≢true}
+use Rattle.std.specs.Prelude.{Some, None, Option, option_map}
+use Rattle.lines.specs.Lines.{asks}
+use Rattle.lines.specs.Words.{numeral_at, value_at, next_place, advanced}
 use Rattle.lines.specs.declared.cursor.Cursor.{Cursor}
 use Rattle.lines.specs.declared.numerals.Numeral.{Numeral}
-use Rattle.lines.proofs.Filling.{Filling, filling-start, filling-next, filled_more, filling-complete, filling-done}
+use Rattle.lines.proofs.Filling.{Filling, filling-start, filling-next, filling-refused, filling-complete}
 use Rattle.lines.proofs.reading.read_line.Goals as goal
 
--- a turn: `next` reads r with the cursor, and `keep` puts it into the list
-module _ (most : ℕ) (line : List ℕ) (n k : ℕ) (out : List ℕ) (cursor : Cursor) (less : k < n) (f : Filling most line n out cursor.at k) where
-  turned : (r : Numeral) (out' : List ℕ) (cursor' : Cursor) (m : ℕ) → cursor.line.now ≡ line → r ≡ numeral_at most cursor.line.now cursor.at
-      → cursor' ≡ advanced cursor r → m ≡ filled r k (length out) → out' ≡ kept r k out → Filling most line n out' cursor'.at m
-  turned r out' cursor' m over read moved more put =
-      let found : numeral_at most line cursor.at ≡ r = ap (λ (l : List ℕ). numeral_at most l cursor.at) (sym over) ∙ sym read in
-      rw (moved, more, put, f.places) (filling-next most line n f less r found)
+-- a turn: the cursor reads its number, or finds none
+module _ {most : ℕ} {line : List ℕ} {n k : ℕ} {out : List ℕ} (cursor : Cursor) (same : cursor.line.now ≡ line) (room : k < n) (f : Filling most line n out cursor.at k) where
+  turned : (v : ℕ) (cursor' : Cursor) → Some v ≡ value_at most cursor.line.now cursor.at → cursor' ≡ advanced most cursor → Filling most line n (set out k v) cursor'.at (k + 1)
+  turned v cursor' read moved = rw (moved, same) (by (numeral_at most line cursor.at) refl (read ∙ ap (λ (l : List ℕ). value_at most l cursor.at) same))
+    where
+      by : (r : Option Numeral) → numeral_at most line cursor.at ≡ r → Some v ≡ option_map (λ (m : Numeral). m.value) r → Filling most line n (set out k v) (next_place r cursor.at) (k + 1)
+      by (Some m) h e = let is : v ≡ m.value = cc in rw is (filling-next most line n f room m h)
+      by None h e = let z : ◌≡◌ {A = ℕ} 0 1 = cc in absurd (omega arith)
 
-  fewer : (r : Numeral) (m : ℕ) → m ≡ filled r k (length out) → n + 1 - m < n + 1 - k
-  fewer r m more =
-      let is : m ≡ filled r k n = more ∙ ap (filled r k) f.places in
-      omega (arith, filled_more most line n r k less, is)
+  refused : None ≡ value_at most cursor.line.now cursor.at → false ≡ asks most n line
+  refused read = sym (filling-refused most line n f room (by (numeral_at most line cursor.at) (read ∙ ap (λ (l : List ℕ). value_at most l cursor.at) same)))
+    where
+      by : (r : Option Numeral) → None ≡ option_map (λ (m : Numeral). m.value) r → r ≡ None
+      by (Some m) e = let z : ◌≡◌ {A = ℕ} 0 1 = cc in absurd (omega arith)
+      by None e = refl
 
-pub loop-count-init : goal.loop-count-init
-loop-count-init c =
-    let e = c.begin-cursor.ensures in
-    record { same = ap (λ (b : Bor (List ℕ)). b.now) e.0; filling = rw e.1 (filling-start _ _ _ _ refl) }
+pub loop-place-init : goal.loop-place-init
+loop-place-init c =
+    let new = c.new-cursor.ensures in
+    record { same = rw new.0 refl; filling = rw new.1 (filling-start _ _ _ _ refl) }
 
-pub loop-count-preserved : goal.loop-count-preserved
-loop-count-preserved c =
-    let before = c.loop-count in
-    let read = c.next.ensures in
-    let put = c.keep-count.ensures in
+pub loop-place-preserved : goal.loop-place-preserved
+loop-place-preserved c =
+    let loop = c.loop-place in
+    let number = c.in-Some.ensures in
     record {
-      same = rw read.1 before.invariant.same;
-      filling = turned _ _ _ _ _ before.cursor (omega arith) before.invariant.filling _ _ _ _ before.invariant.same read.0 read.1 put.0 put.1;
+      same = rw number.place loop.invariant.same;
+      filling = turned loop.cursor loop.invariant.same c.loop-place-test.true loop.invariant.filling _ _ number.value number.place;
     }
 
-pub loop-count-smaller : goal.loop-count-smaller
-loop-count-smaller c = fewer _ _ _ _ _ c.loop-count.cursor (omega arith) c.loop-count.invariant.filling _ _ c.keep-count.ensures.0
+pub returns-in_default : goal.returns-in_default
+returns-in_default c =
+    let loop = c.loop-place in
+    (refused loop.cursor loop.invariant.same c.loop-place-test.true loop.invariant.filling c.in_default.ensures.value, λ yes. absurd (false≢true yes))
 
-pub returns : goal.returns
-returns c =
-    let f = c.loop-count.invariant.filling in
-    let full : length c.args.out.now ≤ c.loop-count.count = omega (arith, f.places) in
-    let is : c.complete.result ≡ complete (length c.args.line.now) c.loop-count.cursor.at c.loop-count.count (length c.args.out.now) =
-    rw (sym f.places) c.complete.ensures in
-    (is ∙ filling-complete _ _ _ f full, λ yes. filling-done _ _ _ f full (sym is ∙ yes))
+pub returns-then-line-lt1024 : goal.returns-then-line-lt1024
+returns-then-line-lt1024 c = filling-complete _ _ _ c.loop-place.invariant.filling c.loop-place-test.false c.if-line-lt1024.true

@@ -1,14 +1,14 @@
 -- `listing::norm::links_norm` meets its contract: after k links `top` is the largest so far, and link k's weights begin at `begin`.
 -- Assumes nothing.
 use mathlib.Core.Path.{◌≡◌}
-use Prim.Native.Nat.{◌+◌, ◌-◌, ◌≤◌}
+use Prim.Native.Nat.{◌+◌}
 use Rattle.lists.specs.Places.{largest}
 use Rattle.plan.specs.Parts.{link_start}
 use Rattle.listing.specs.Norm as specs
 use Rattle.listing.proofs.norm.links_norm.Given as goal
 
 abbrev pub invariant-loop-k : goal.invariant-loop-k
-invariant-loop-k l = (l.k ≤ l.plan.m) × (l.begin ≡ link_start l.plan l.k) × (l.top ≡ largest (λ i. specs.squares l.plan.p l.weights (link_start l.plan i) (l.plan.n + i)) l.k)
-
-abbrev pub decreases-loop-k : goal.decreases-loop-k
-decreases-loop-k l = l.plan.m - l.k
+invariant-loop-k l = record {
+  place : l.begin ≡ link_start l.plan l.k;
+  value : l.top ≡ largest (λ i. specs.squares l.plan.p l.weights (link_start l.plan i) (l.plan.n + i)) l.k;
+}

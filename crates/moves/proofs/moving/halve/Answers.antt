@@ -1,96 +1,48 @@
-use mathlib.Core.Path.{sym, ◌∙◌}
-use Prim.Native.Nat.{◌+◌, ◌-◌, ◌≤◌}
+use mathlib.Core.Path.{◌≡◌, sym, ◌∙◌}
+use mathlib.Core.List.{◌++◌}
+use Prim.Native.Nat.{◌+◌, ◌*◌, ◌<◌}
+use native.Mathlib.Nat.{zero-mul}
 use native.Mathlib.Omega.{arith}
-use lib.ListN.{length}
-use Rattle.lists.proofs.Parts.{cut-length}
-use Rattle.plan.specs.Parts.{store_size}
-use Rattle.moves.proofs.RowMoves.{halving-none, halving-room, halving-next, halving-all}
+use lib.ListN.{length, drop}
+use Rattle.moves.proofs.FullChunks.{chunk-row, chunk-rest, chunk-within, chunks-all}
+use Rattle.moves.proofs.RowMoves.{Halving, halving-none, halving-room, halving-next, halving-all}
 use Rattle.moves.proofs.moving.halve.Goals as goal
 
 pub loop-q-init : goal.loop-q-init
-loop-q-init c = halving-none _ _ _ c.requires.half_len
+loop-q-init c =
+    let all = c.chunks_exact.ensures in
+    rw (c.into_iter-q-iterator.ensures.into_iter_gives, c.enumerate-q-items.ensures.source, c.enumerate-q-items.ensures.count, zero-mul)
+    (halving-none _ _ _ c.requires.half_len, all.rest, all.size)
 
-pub overflow_add-count : goal.overflow_add-count
-overflow_add-count c = omega arith
-
-pub overflow_sub-count : goal.overflow_sub-count
-overflow_sub-count c = omega arith
-
-pub overflow_add-from_end : goal.overflow_add-from_end
-overflow_add-from_end c =
-    let room : let loop = c.loop-q in
-    let args = c.args in
-    (loop.from + (args.c + 1 - loop.q) ≤ length args.full.now) × (loop.to + (args.c + 1 - loop.q) ≤ store_size args.c) =
-    (halving-room c.loop-q.invariant c.requires.full_len c.loop-q-test.true) in
-    omega (arith, room.0)
-
-pub overflow_add-to_end : goal.overflow_add-to_end
-overflow_add-to_end c =
-    let room : let loop = c.loop-q in
-    let args = c.args in
-    (loop.from + (args.c + 1 - loop.q) ≤ length args.full.now) × (loop.to + (args.c + 1 - loop.q) ≤ store_size args.c) =
-    (halving-room c.loop-q.invariant c.requires.full_len c.loop-q-test.true) in
-    omega (arith, room.1, c.requires.half_len)
-
-pub slice_bounds-copy-count : goal.slice_bounds-copy-count
-slice_bounds-copy-count c = omega arith
-
-pub slice_bounds-copy-start : goal.slice_bounds-copy-start
-slice_bounds-copy-start c = omega arith
-
-pub slice_bounds-copy-end : goal.slice_bounds-copy-end
-slice_bounds-copy-end c =
-    let room : let loop = c.loop-q in
-    let args = c.args in
-    (loop.from + (args.c + 1 - loop.q) ≤ length args.full.now) × (loop.to + (args.c + 1 - loop.q) ≤ store_size args.c) =
-    (halving-room c.loop-q.invariant c.requires.full_len c.loop-q-test.true) in
-    omega (arith, room.1, c.loop-q.invariant.written.same)
-
-pub slice_bounds-copy-count-in-loop-q : goal.slice_bounds-copy-count-in-loop-q
-slice_bounds-copy-count-in-loop-q c = omega arith
-
-pub slice_bounds-copy-start-in-loop-q : goal.slice_bounds-copy-start-in-loop-q
-slice_bounds-copy-start-in-loop-q c = omega arith
-
-pub slice_bounds-copy-end-in-loop-q : goal.slice_bounds-copy-end-in-loop-q
-slice_bounds-copy-end-in-loop-q c =
-    let room : let loop = c.loop-q in
-    let args = c.args in
-    (loop.from + (args.c + 1 - loop.q) ≤ length args.full.now) × (loop.to + (args.c + 1 - loop.q) ≤ store_size args.c) =
-    (halving-room c.loop-q.invariant c.requires.full_len c.loop-q-test.true) in
-    omega (arith, room.0)
-
-pub copy-requires : goal.copy-requires
-copy-requires c =
-    let room : let loop = c.loop-q in
-    let args = c.args in
-    (loop.from + (args.c + 1 - loop.q) ≤ length args.full.now) × (loop.to + (args.c + 1 - loop.q) ≤ store_size args.c) =
-    (halving-room c.loop-q.invariant c.requires.full_len c.loop-q-test.true) in
-    let loop = c.loop-q in
-    let count = c.args.c + 1 - loop.q in
-    cut-length c.args.full.now loop.from count room.0
-    ∙ sym (cut-length loop.half loop.to count (omega (arith, room.1, loop.invariant.written.same)))
-
-pub overflow_add-from : goal.overflow_add-from
-overflow_add-from c = omega arith
-
-pub overflow_add-from-in-loop-q : goal.overflow_add-from-in-loop-q
-overflow_add-from-in-loop-q c =
-    let room : let loop = c.loop-q in
-    let args = c.args in
-    (loop.from + (args.c + 1 - loop.q) ≤ length args.full.now) × (loop.to + (args.c + 1 - loop.q) ≤ store_size args.c) =
-    (halving-room c.loop-q.invariant c.requires.full_len c.loop-q-test.true) in
-    omega (arith, room.0, c.requires.c_bound)
-
-pub overflow_add-q : goal.overflow_add-q
-overflow_add-q c = omega arith
-
-pub loop-q-smaller : goal.loop-q-smaller
-loop-q-smaller c = omega arith
+pub slice_bounds-copy_from_slice-end : goal.slice_bounds-copy_from_slice-end
+slice_bounds-copy_from_slice-end c =
+    let steps = c.in-Some.ensures.steps in
+    let inv = c.loop-q.invariant in
+    let near = chunk-within c.args.c c.args.full.now c.loop-q.q-iterator.count c.in-Some.row.now _ (sym inv.1 ∙ steps.0.1.0) (steps.0.1.1 ∙ inv.2) c.requires.full_len inv.0.within in
+    omega (arith, halving-room inv.0 near, steps.1, inv.0.written.same)
 
 pub loop-q-preserved : goal.loop-q-preserved
 loop-q-preserved c =
-    halving-next c.loop-q.invariant c.requires.full_len c.loop-q-test.true _ c.copy.ensures
+    let C = c.args.c in
+    let full = c.args.full.now in
+    let q = c.in-Some.q in
+    let row = c.in-Some.row.now in
+    let rest = c.next.new.self.iter.rest.now in
+    let steps = c.in-Some.ensures.steps in
+    let inv = c.loop-q.invariant in
+    let count : length row ≡ C + 1 = steps.0.1.1 ∙ inv.2 in
+    let cut : drop (q * (C + 1)) full ≡ row ++ rest = rw steps.1 (sym inv.1 ∙ steps.0.1.0) in
+    let done : Halving C full c.args.half.now q c.loop-q.to c.loop-q.half = rw steps.1 inv.0 in
+    let next : c.next.new.self.count ≡ q + 1 = omega (arith, steps.1, steps.2) in
+    let near : q < C = chunk-within C full q row rest cut count c.requires.full_len done.within in
+    rw next (
+      halving-next done near row (chunk-row C full q row rest cut count) count _ c.copy_from_slice.ensures.after,
+      chunk-rest C full q row rest cut count,
+      steps.0.0 ∙ inv.2,
+    )
 
 pub returns : goal.returns
-returns c = halving-all c.loop-q.invariant c.loop-q-test.false
+returns c =
+    let inv = c.loop-q.invariant in
+    let steps = c.in-None.ensures.steps in
+    halving-all inv.0 (chunks-all c.args.c c.args.full.now c.loop-q.q-iterator.count c.requires.full_len (rw (sym inv.1, sym inv.2) steps.0.1.0))

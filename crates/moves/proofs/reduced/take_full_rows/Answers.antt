@@ -1,95 +1,53 @@
-use mathlib.Core.Path.{refl, sym, ap, ◌∙◌}
-use Prim.Native.Nat.{◌+◌, ◌≤◌}
+use mathlib.Core.Path.{◌≡◌, refl, sym, ap, ◌∙◌}
+use mathlib.Core.List.{◌++◌}
+use Prim.Native.Nat.{◌+◌, ◌*◌}
 use native.Mathlib.Nat.{zero-mul}
 use native.Mathlib.Omega.{arith}
-use lib.ListN.{length}
-use Rattle.lists.proofs.Parts.{cut-length}
+use lib.ListN.{length, drop}
 use Rattle.store.specs.Reading.{State}
 use Rattle.store.proofs.RowTests.{counted-length}
-use Rattle.store.proofs.TakingRows.{taken_none, taken_next, taken-all, columns-lent}
+use Rattle.store.proofs.TakingRows.{Taken, taken_none, taken_next, taken-all, columns-lent}
 use Rattle.moves.specs.FullRows.{full_row, full_took, full_after}
-use Rattle.moves.proofs.FullLayout.{full-end}
-use Rattle.moves.proofs.FullReading.{cut-row, full-next}
+use Rattle.moves.proofs.FullChunks.{chunk-row, chunk-rest, chunk-within, chunks-all}
+use Rattle.moves.proofs.FullReading.{full-next}
 use Rattle.moves.proofs.reduced.take_full_rows.Goals as goal
-
-pub overflow_add-width : goal.overflow_add-width
-overflow_add-width c = omega arith
 
 pub loop-q-init : goal.loop-q-init
 unfolding full_after
 loop-q-init c =
-    (taken_none refl c.requires.tops_value, sym (zero-mul (c.args.c + 1)))
-
-pub overflow_add-end : goal.overflow_add-end
-overflow_add-end c =
-    let ends : let start = c in
-    c.loop-q.begin + (start.args.c + 1) ≤ length start.args.full.now =
-    (let start = c in
-    omega (arith, c.loop-q.invariant.1, start.requires.full_len, full-end start.args.c c.loop-q.q c.loop-q-test.true)) in
-    omega (arith, ends)
-
-pub slice_bounds-take_full_row-count : goal.slice_bounds-take_full_row-count
-slice_bounds-take_full_row-count c = omega arith
-
-pub slice_bounds-take_full_row-start : goal.slice_bounds-take_full_row-start
-slice_bounds-take_full_row-start c = omega arith
-
-pub slice_bounds-take_full_row-end : goal.slice_bounds-take_full_row-end
-slice_bounds-take_full_row-end c = omega (arith, c.loop-q.invariant.0.places)
-
-pub slice_bounds-take_full_row-count-in-loop-q : goal.slice_bounds-take_full_row-count-in-loop-q
-slice_bounds-take_full_row-count-in-loop-q c = omega arith
-
-pub slice_bounds-take_full_row-start-in-loop-q : goal.slice_bounds-take_full_row-start-in-loop-q
-slice_bounds-take_full_row-start-in-loop-q c = omega arith
-
-pub slice_bounds-take_full_row-end-in-loop-q : goal.slice_bounds-take_full_row-end-in-loop-q
-slice_bounds-take_full_row-end-in-loop-q c =
-    let ends : let start = c in
-    c.loop-q.begin + (start.args.c + 1) ≤ length start.args.full.now =
-    (let start = c in
-    omega (arith, c.loop-q.invariant.1, start.requires.full_len, full-end start.args.c c.loop-q.q c.loop-q-test.true)) in
-    ends
-
-pub take_full_row-sound-requires : goal.take_full_row-sound-requires
-take_full_row-sound-requires c =
-    let ends : let start = c in
-    c.loop-q.begin + (start.args.c + 1) ≤ length start.args.full.now =
-    (let start = c in
-    omega (arith, c.loop-q.invariant.1, start.requires.full_len, full-end start.args.c c.loop-q.q c.loop-q-test.true)) in
-    let turn = c in
-    let start = turn in
-    let lent = columns-lent turn.loop-q.invariant.0 in
-    let l = turn.loop-q-test.true in
-    let count = cut-length start.args.full.now turn.loop-q.begin (start.args.c + 1) ends in record {
-      row_len = omega (arith, count, lent, l);
-      tops_nonzero = omega (arith, lent, l);
-    }
-
-pub overflow_add-q : goal.overflow_add-q
-overflow_add-q c = omega arith
-
-pub loop-q-smaller : goal.loop-q-smaller
-loop-q-smaller c = omega arith
+    let all = c.chunks_exact.ensures in
+    rw (c.into_iter-q-iterator.ensures.into_iter_gives, c.enumerate-q-items.ensures.source, c.enumerate-q-items.ensures.count, zero-mul)
+    (taken_none refl c.requires.tops_value, all.rest, all.size)
 
 pub loop-q-preserved : goal.loop-q-preserved
 loop-q-preserved c =
-    let turn = c in
-    let start = turn in
-    let C = start.args.c in
-    let full = start.args.full.now in
-    let loop = turn.loop-q in
-    let state = loop.invariant.0 in
-    let row = c.take_full_row-sound in (
-      taken_next state turn.loop-q-test.true _ row.new.tops (λ (s : State). full_took start.args.p loop.q s (full_row C full loop.q))
-          (ap length row.ensures.tops_after_2 ∙ counted-length _ _ ∙ columns-lent state)
-          (row.ensures.tops_after ∙ ap (full_took start.args.p loop.q _) (cut-row C full loop.q loop.begin loop.invariant.1))
-          (full-next C full start.args.p loop.q),
-      omega (arith, loop.invariant.1),
+    let p = c.args.p in
+    let C = c.args.c in
+    let full = c.args.full.now in
+    let q = c.in-Some.q in
+    let row = c.in-Some.row.now in
+    let rest = c.next.new.self.iter.rest.now in
+    let steps = c.in-Some.ensures.steps in
+    let inv = c.loop-q.invariant in
+    let count : length row ≡ C + 1 = steps.0.1.1 ∙ inv.2 in
+    let cut : drop (q * (C + 1)) full ≡ row ++ rest = rw steps.1 (sym inv.1 ∙ steps.0.1.0) in
+    let state : Taken C (full_after p C full) q c.loop-q.sound c.loop-q.tops = rw steps.1 inv.0 in
+    let next : c.next.new.self.count ≡ q + 1 = omega (arith, steps.1, steps.2) in
+    let took = c.take_full_row-sound in
+    rw next (
+      taken_next state (chunk-within C full q row rest cut count c.requires.full_len state.within) _ took.new.tops (λ (s : State). full_took p q s (full_row C full q))
+          (ap length took.ensures.tops_after_2 ∙ counted-length _ _ ∙ columns-lent state)
+          (took.ensures.tops_after ∙ ap (full_took p q _) (chunk-row C full q row rest cut count))
+          (full-next C full p q),
+      chunk-rest C full q row rest cut count,
+      steps.0.0 ∙ inv.2,
     )
 
 pub returns : goal.returns
-returns c = record {
-  tops_len = c.loop-q.invariant.0.places;
-  tops_after = taken-all c.loop-q.invariant.0 c.loop-q-test.false;
-}
+returns c =
+    let inv = c.loop-q.invariant in
+    let steps = c.in-None.ensures.steps in
+    record {
+      tops_len = inv.0.places;
+      tops_after = taken-all inv.0 (chunks-all c.args.c c.args.full.now c.loop-q.q-iterator.count c.requires.full_len (rw (sym inv.1, sym inv.2) steps.0.1.0));
+    }

@@ -1,11 +1,13 @@
 -- `plan::calls::check` meets its contract: what `admit` refuses, and no cause of its own (`Admitting`). Assumes nothing.
-use mathlib.Core.Path.{sym, ap, ◌∙◌}
-use Rattle.plan.specs.Numbers.{answer_of}
-use Rattle.plan.proofs.Admitting.{admission, turned-away}
+use mathlib.Core.Path.{sym}
+use Rattle.std.proofs.lemmas.Result.{err_from_is_err_and}
+use Rattle.plan.proofs.Admitting.{passing, turned-away}
 use Rattle.plan.proofs.calls.check.Goals as goal
 
-pub returns-in-Refused : goal.returns-in-Refused
-returns-in-Refused c = (turned-away _ _ (sym c.admit.ensures ∙ ap answer_of c.in-Refused.is) _).0
+pub returns-in_err-admit : goal.returns-in_err-admit
+returns-in_err-admit c =
+    let p = err_from_is_err_and c.from_residual.result c.from_residual.ensures.1 in
+    rw (p.1, p.2) (turned-away _ _ c.in_err-admit.ensures.answer _).0
 
-pub returns-in-Accepted : goal.returns-in-Accepted
-returns-in-Accepted c = sym ((admission _ _ (sym c.admit.ensures ∙ ap answer_of c.in-Accepted.is)).rest _)
+pub returns : goal.returns
+returns c = sym ((passing _ _ c.in_ok-admit.field-0 c.in_ok-admit.ensures).rest _)

@@ -4,6 +4,3 @@ use Rattle.plan.proofs.rows.fill_digits.Given as goal
 
 abbrev pub invariant-loop-j : goal.invariant-loop-j
 invariant-loop-j l = Split l.radices l.entry l.j l.rest l.x
-
-abbrev pub decreases-loop-j : goal.decreases-loop-j
-decreases-loop-j l = l.j

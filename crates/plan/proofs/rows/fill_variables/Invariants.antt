@@ -1,12 +1,8 @@
 -- `plan::rows::fill_variables` meets its contract: after k links the first n + k places are the chain, and a turn writes the next
 -- link's value behind it (`Linked` of `Chains`). Assumes nothing.
-use Prim.Native.Nat.{◌-◌}
-use Rattle.plan.specs.Parts.{lend}
+use Rattle.plan.specs.Lending.{whole}
 use Rattle.plan.proofs.Chains.{Linked}
 use Rattle.plan.proofs.rows.fill_variables.Given as goal
 
 abbrev pub invariant-loop-k : goal.invariant-loop-k
-invariant-loop-k l = Linked (lend l.plan l.radices l.weights l.tables l.d) l.entry l.k l.begin l.x
-
-abbrev pub decreases-loop-k : goal.decreases-loop-k
-decreases-loop-k l = l.plan.m - l.k
+invariant-loop-k l = Linked (whole l.plan) l.entry l.k l.begin l.x

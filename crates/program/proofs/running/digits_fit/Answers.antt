@@ -1,47 +1,17 @@
-use Rattle.program.proofs.running.digits_fit.Invariants.{fits}
-use mathlib.Core.Path.{refl, sym, ap, ap₂, ◌∙◌}
-use mathlib.Core.Bool.{◌&&◌, true≢false}
-use native.Mathlib.Nat.{le_antisymm}
+use Rattle.std.proofs.Common.{rules, ◌∙◌}
+use Rattle.std.proofs.lemmas.Iterator.{YieldsList-from_slice, YieldsList-from_zip}
+use Rattle.std.proofs.lemmas.Iterator.Search.{all_from_yields_List}
+use borrow.Author.Tests.{tests}
+use Prim.Native.Nat.{ℕ}
 use native.Mathlib.Omega.{arith}
-use borrow.Author.Tests.{lt-ltb, le-ltb}
-use Rattle.lists.specs.Places.{every}
-use Rattle.lists.proofs.Tests.{refute, every-at, every-next}
+use lib.Dec.{ltb}
 use Rattle.program.specs.Calls.{digits_fit}
+use Rattle.program.proofs.Lists.{zip-every}
 use Rattle.program.proofs.running.digits_fit.Goals as goal
-
-pub loop-j-init : goal.loop-j-init
-unfolding every
-loop-j-init c = (omega arith, refl)
-
-pub bounds-radices-j : goal.bounds-radices-j
-bounds-radices-j c = omega (arith, c.requires)
-
-pub bounds-digits-j : goal.bounds-digits-j
-bounds-digits-j c = omega arith
-
-pub returns-then-radices-j : goal.returns-then-radices-j
-unfolding digits_fit
-returns-then-radices-j c =
-    let inside = c in
-    let turn = inside in
-    let a = c.args in
-    sym (refute _ (λ e. true≢false
-    (sym (every-at (fits a.radices.now a.digits.now) _ e turn.loop-j.j inside.loop-j-test.true) ∙ le-ltb _ _ c.if-radices-j.true)))
-
-pub overflow_add-j : goal.overflow_add-j
-overflow_add-j c = omega arith
-
-pub loop-j-smaller : goal.loop-j-smaller
-loop-j-smaller c = omega arith
-
-pub loop-j-preserved : goal.loop-j-preserved
-loop-j-preserved c =
-    let a = c.args in
-    (omega arith, every-next (fits a.radices.now a.digits.now) c.loop-j.j ∙ ap₂ ◌&&◌ c.loop-j.invariant.1 (lt-ltb _ _ c.if-radices-j.false))
 
 pub returns : goal.returns
 unfolding digits_fit
 returns c =
-    let a = c.args in
-    let loop = c.loop-j in
-    sym (ap (every (fits a.radices.now a.digits.now)) (sym (le_antisymm loop.invariant.0 c.loop-j-test.false)) ∙ loop.invariant.1)
+    let pairs = YieldsList-from_zip (YieldsList-from_slice {s = c.zip.result.a} c.args.digits.now cc) (YieldsList-from_slice {s = c.zip.result.b} c.args.radices.now cc) in
+    all_from_yields_List (λ (p : ℕ × ℕ). ltb p.0 p.1) c.all.new.self _ c.all.result c.all.ensures.ran pairs (λ x b q k. search (rules, tests))
+    ∙ zip-every c.args.digits.now c.args.radices.now (omega arith)

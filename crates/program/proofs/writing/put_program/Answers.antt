@@ -4,6 +4,7 @@ use mathlib.Core.List.{List, ◌++◌}
 use Prim.Native.Nat.{ℕ, ◌+◌, ◌-◌, ◌*◌, ◌≤◌}
 use native.Mathlib.Nat.{le_of_eq}
 use native.Mathlib.Omega.{arith}
+use Rattle.std.proofs.Common.{rules}
 use lib.ListN.{length, take, drop}
 use Rattle.lists.specs.Places.{joined, at}
 use Rattle.lists.proofs.Parts.{cut-length}
@@ -11,209 +12,77 @@ use Rattle.plan.specs.Numbers.{variables, columns}
 use Rattle.plan.proofs.Blocks.{last-room}
 use Rattle.program.specs.Layout.{clear, adds, link_steps, product_steps, layout}
 use Rattle.program.specs.Placed.{Room}
-use Rattle.program.proofs.Placement.{layout-split, room-front, wrote-room, wrote-4, wrote_as}
+use Rattle.program.proofs.Placement.{layout-split, room-front, wrote-fits, wrote-4, wrote_as}
 use Rattle.program.proofs.writing.put_program.Goals as goal
+use Rattle.program.proofs.writing.put_program.Goals.{After-variables-l}
 
-pub overflow_mul-start : goal.overflow_mul-start
-overflow_mul-start c =
-    let l : ℕ = c.variables-l.result in
-    let begin : ℕ =
-    (c.args.plan.t * l) in
-    let begins : begin ≡ c.args.plan.t * variables c.args.plan =
-    (ap (λ (l : ℕ). c.args.plan.t * l) c.variables-l.ensures) in
-    let ends : begin + l ≡ columns c.args.plan =
-    (last-room c.args.plan _ _ begins c.variables-l.ensures) in
-    omega (arith, ends, c.requires.within.column-limit)
+begins : (c : After-variables-l) → c.args.plan.t * c.variables-l.result ≡ c.args.plan.t * variables c.args.plan
+begins c = ap (λ (l : ℕ). c.args.plan.t * l) c.variables-l.ensures
 
-pub overflow_add-end : goal.overflow_add-end
-overflow_add-end c =
-    let l : ℕ = c.variables-l.result in
-    let begin : ℕ =
-    (c.args.plan.t * l) in
-    let begins : begin ≡ c.args.plan.t * variables c.args.plan =
-    (ap (λ (l : ℕ). c.args.plan.t * l) c.variables-l.ensures) in
-    let ends : begin + l ≡ columns c.args.plan =
-    (last-room c.args.plan _ _ begins c.variables-l.ensures) in
-    omega (arith, ends, c.requires.within.column-limit)
+ends : (c : After-variables-l) → c.args.plan.t * c.variables-l.result + c.variables-l.result ≡ columns c.args.plan
+ends c = last-room c.args.plan _ _ (begins c) c.variables-l.ensures
 
-pub put_links-next-requires : goal.put_links-next-requires
-put_links-next-requires c =
-    let l : ℕ = c.variables-l.result in
-    let begin : ℕ =
-    (c.args.plan.t * l) in
-    let begins : begin ≡ c.args.plan.t * variables c.args.plan =
-    (ap (λ (l : ℕ). c.args.plan.t * l) c.variables-l.ensures) in
-    let ends : begin + l ≡ columns c.args.plan =
-    (last-room c.args.plan _ _ begins c.variables-l.ensures) in
-    let fits : begin + l ≤ length c.args.beta.now =
-    (le_of_eq (ends ∙ sym c.requires.d_len.1)) in
-    let row : List ℕ =
-    (take (begin + l - begin) (drop begin c.args.beta.now)) in
-    let links : List ℕ =
-    (joined (link_steps c.args.plan c.args.weights.now) c.args.plan.m) in
-    let cleared : List ℕ =
-    (clear (l + 4)) in
-    let products : List ℕ =
-    (joined (product_steps c.args.plan c.args.d.now c.args.beta.now) c.args.plan.t) in
-    let last : List ℕ =
-    (adds (l + 4) (at row) (length row)) in
-    let split : links ++ (cleared ++ (products ++ last)) ≡ layout c.args.plan c.args.weights.now c.args.d.now c.args.beta.now =
-    (layout-split c.args.plan _ _ _ _ _ fits begins c.variables-l.ensures) in
-    let room : Room c.args.out.now 0 (links ++ (cleared ++ (products ++ last))) =
-    (subst (Room c.args.out.now 0) (sym split) c.requires.room) in
+fits : (c : After-variables-l) → c.args.plan.t * c.variables-l.result + c.variables-l.result ≤ length c.args.beta.now
+fits c = le_of_eq (ends c ∙ sym c.requires.d_len.1)
+
+-- its four pieces
+links : (c : After-variables-l) → List ℕ
+links c = joined (link_steps c.args.plan c.args.weights.now) c.args.plan.m
+
+cleared : (c : After-variables-l) → List ℕ
+cleared c = clear (c.variables-l.result + 4)
+
+products : (c : After-variables-l) → List ℕ
+products c = joined (product_steps c.args.plan c.args.d.now c.args.beta.now) c.args.plan.t
+
+last : (c : After-variables-l) → List ℕ
+last c =
+    let l = c.variables-l.result in
+    let begin = c.args.plan.t * l in
+    let row = take (begin + l - begin) (drop begin c.args.beta.now) in
+    adds (l + 4) (at row) (length row)
+
+split : (c : After-variables-l) → links c ++ (cleared c ++ (products c ++ last c)) ≡ layout c.args.plan c.args.weights.now c.args.d.now c.args.beta.now
+unfolding links cleared products last
+split c = layout-split c.args.plan _ _ _ _ _ (fits c) (begins c) c.variables-l.ensures
+
+room : (c : After-variables-l) → Room c.args.out.now 0 (links c ++ (cleared c ++ (products c ++ last c)))
+room c = subst (Room c.args.out.now 0) (sym (split c)) c.requires.room
+
+pub links-requires : goal.links-requires
+unfolding links cleared products last
+links-requires c =
+    let r = (goal.at.links-requires c).After-variables-l in
+    room-front _ _ (links r) (cleared r ++ (products r ++ last r)) (room r)
+
+pub clear-requires : goal.clear-requires
+unfolding links cleared products last
+clear-requires c =
+    let r = (goal.at.clear-requires c).After-variables-l in
+    room-front _ _ (cleared r) (products r ++ last r) (wrote-fits (links r) (cleared r ++ (products r ++ last r)) (room r) c.links.ensures)
+
+pub products-requires : goal.products-requires
+unfolding links cleared products last
+products-requires c =
+    let r = (goal.at.products-requires c).After-variables-l in
+    let behind = wrote-fits (links r) (cleared r ++ (products r ++ last r)) (room r) c.links.ensures in
+    room-front _ _ (products r) (last r) (wrote-fits (cleared r) (products r ++ last r) behind c.clear.ensures)
+
+pub adds-requires : goal.adds-requires
+unfolding links cleared products last
+adds-requires c =
+    let r = (goal.at.adds-requires c).After-variables-l in
+    let behind = wrote-fits (links r) (cleared r ++ (products r ++ last r)) (room r) c.links.ensures in
     record {
-      within = c.requires.within;
-      weights_len = c.requires.weights_len;
-      room = room-front c.args.out.now 0 links (cleared ++ (products ++ last)) room;
-    }
-
-pub put_step-next-requires : goal.put_step-next-requires
-put_step-next-requires c =
-    let l : ℕ = c.variables-l.result in
-    let begin : ℕ =
-    (c.args.plan.t * l) in
-    let begins : begin ≡ c.args.plan.t * variables c.args.plan =
-    (ap (λ (l : ℕ). c.args.plan.t * l) c.variables-l.ensures) in
-    let ends : begin + l ≡ columns c.args.plan =
-    (last-room c.args.plan _ _ begins c.variables-l.ensures) in
-    let fits : begin + l ≤ length c.args.beta.now =
-    (le_of_eq (ends ∙ sym c.requires.d_len.1)) in
-    let row : List ℕ =
-    (take (begin + l - begin) (drop begin c.args.beta.now)) in
-    let links : List ℕ =
-    (joined (link_steps c.args.plan c.args.weights.now) c.args.plan.m) in
-    let cleared : List ℕ =
-    (clear (l + 4)) in
-    let products : List ℕ =
-    (joined (product_steps c.args.plan c.args.d.now c.args.beta.now) c.args.plan.t) in
-    let last : List ℕ =
-    (adds (l + 4) (at row) (length row)) in
-    let split : links ++ (cleared ++ (products ++ last)) ≡ layout c.args.plan c.args.weights.now c.args.d.now c.args.beta.now =
-    (layout-split c.args.plan _ _ _ _ _ fits begins c.variables-l.ensures) in
-    let room : Room c.args.out.now 0 (links ++ (cleared ++ (products ++ last))) =
-    (subst (Room c.args.out.now 0) (sym split) c.requires.room) in
-    let behind-links : let r = c in Room c.put_links-next.new.out c.put_links-next.result (cleared ++ (products ++ last)) =
-    (let r = c in wrote-room links (cleared ++ (products ++ last)) room c.put_links-next.ensures) in
-    let put = c in
-    let r = put in
-    room-front put.put_links-next.new.out put.put_links-next.result cleared (products ++ last) behind-links
-
-pub put_products-next-requires : goal.put_products-next-requires
-put_products-next-requires c =
-    let l : ℕ = c.variables-l.result in
-    let begin : ℕ =
-    (c.args.plan.t * l) in
-    let begins : begin ≡ c.args.plan.t * variables c.args.plan =
-    (ap (λ (l : ℕ). c.args.plan.t * l) c.variables-l.ensures) in
-    let ends : begin + l ≡ columns c.args.plan =
-    (last-room c.args.plan _ _ begins c.variables-l.ensures) in
-    let fits : begin + l ≤ length c.args.beta.now =
-    (le_of_eq (ends ∙ sym c.requires.d_len.1)) in
-    let row : List ℕ =
-    (take (begin + l - begin) (drop begin c.args.beta.now)) in
-    let links : List ℕ =
-    (joined (link_steps c.args.plan c.args.weights.now) c.args.plan.m) in
-    let cleared : List ℕ =
-    (clear (l + 4)) in
-    let products : List ℕ =
-    (joined (product_steps c.args.plan c.args.d.now c.args.beta.now) c.args.plan.t) in
-    let last : List ℕ =
-    (adds (l + 4) (at row) (length row)) in
-    let split : links ++ (cleared ++ (products ++ last)) ≡ layout c.args.plan c.args.weights.now c.args.d.now c.args.beta.now =
-    (layout-split c.args.plan _ _ _ _ _ fits begins c.variables-l.ensures) in
-    let room : Room c.args.out.now 0 (links ++ (cleared ++ (products ++ last))) =
-    (subst (Room c.args.out.now 0) (sym split) c.requires.room) in
-    let behind-links : let r = c in Room c.put_links-next.new.out c.put_links-next.result (cleared ++ (products ++ last)) =
-    (let r = c in wrote-room links (cleared ++ (products ++ last)) room c.put_links-next.ensures) in
-    let behind-step : let r = c in Room c.put_step-next.new.out c.put_step-next.result (products ++ last) =
-    (let put = c in
-    let r = put in
-    wrote-room cleared (products ++ last) behind-links c.put_step-next.ensures) in
-    let step = c in
-    let r = step in record {
-      within = c.requires.within;
-      d_len = c.requires.d_len;
-      room = room-front step.put_step-next.new.out step.put_step-next.result products last behind-step;
-    }
-
-pub slice_bounds-put_adds-end : goal.slice_bounds-put_adds-end
-slice_bounds-put_adds-end c =
-    let l : ℕ = c.variables-l.result in
-    let begin : ℕ =
-    (c.args.plan.t * l) in
-    let begins : begin ≡ c.args.plan.t * variables c.args.plan =
-    (ap (λ (l : ℕ). c.args.plan.t * l) c.variables-l.ensures) in
-    let ends : begin + l ≡ columns c.args.plan =
-    (last-room c.args.plan _ _ begins c.variables-l.ensures) in
-    let fits : begin + l ≤ length c.args.beta.now =
-    (le_of_eq (ends ∙ sym c.requires.d_len.1)) in
-    fits
-
-pub put_adds-requires : goal.put_adds-requires
-put_adds-requires c =
-    let l : ℕ = c.variables-l.result in
-    let begin : ℕ =
-    (c.args.plan.t * l) in
-    let begins : begin ≡ c.args.plan.t * variables c.args.plan =
-    (ap (λ (l : ℕ). c.args.plan.t * l) c.variables-l.ensures) in
-    let ends : begin + l ≡ columns c.args.plan =
-    (last-room c.args.plan _ _ begins c.variables-l.ensures) in
-    let fits : begin + l ≤ length c.args.beta.now =
-    (le_of_eq (ends ∙ sym c.requires.d_len.1)) in
-    let row : List ℕ =
-    (take (begin + l - begin) (drop begin c.args.beta.now)) in
-    let links : List ℕ =
-    (joined (link_steps c.args.plan c.args.weights.now) c.args.plan.m) in
-    let cleared : List ℕ =
-    (clear (l + 4)) in
-    let products : List ℕ =
-    (joined (product_steps c.args.plan c.args.d.now c.args.beta.now) c.args.plan.t) in
-    let last : List ℕ =
-    (adds (l + 4) (at row) (length row)) in
-    let split : links ++ (cleared ++ (products ++ last)) ≡ layout c.args.plan c.args.weights.now c.args.d.now c.args.beta.now =
-    (layout-split c.args.plan _ _ _ _ _ fits begins c.variables-l.ensures) in
-    let room : Room c.args.out.now 0 (links ++ (cleared ++ (products ++ last))) =
-    (subst (Room c.args.out.now 0) (sym split) c.requires.room) in
-    let behind-links : let r = c in Room c.put_links-next.new.out c.put_links-next.result (cleared ++ (products ++ last)) =
-    (let r = c in wrote-room links (cleared ++ (products ++ last)) room c.put_links-next.ensures) in
-    let behind-step : let r = c in Room c.put_step-next.new.out c.put_step-next.result (products ++ last) =
-    (let put = c in
-    let r = put in
-    wrote-room cleared (products ++ last) behind-links c.put_step-next.ensures) in
-    let step = c in
-    let r = step in
-    let e = cut-length c.args.beta.now begin l fits in record {
-      weights_len_bound = omega (arith, e, r.variables-l.ensures, c.requires.within.variable-limit);
-      room = wrote-room products last behind-step c.put_products-next.ensures;
+      weights_len_bound = omega (arith, cut-length c.args.beta.now _ c.variables-l.result (fits r), c.variables-l.ensures, c.requires.within.variable-limit);
+      room = wrote-fits (products r) (last r) (wrote-fits (cleared r) (products r ++ last r) behind c.clear.ensures) c.products.ensures;
     }
 
 pub returns : goal.returns
+unfolding links cleared products last
 returns c =
-    let l : ℕ = c.variables-l.result in
-    let begin : ℕ =
-    (c.args.plan.t * l) in
-    let begins : begin ≡ c.args.plan.t * variables c.args.plan =
-    (ap (λ (l : ℕ). c.args.plan.t * l) c.variables-l.ensures) in
-    let ends : begin + l ≡ columns c.args.plan =
-    (last-room c.args.plan _ _ begins c.variables-l.ensures) in
-    let fits : begin + l ≤ length c.args.beta.now =
-    (le_of_eq (ends ∙ sym c.requires.d_len.1)) in
-    let row : List ℕ =
-    (take (begin + l - begin) (drop begin c.args.beta.now)) in
-    let links : List ℕ =
-    (joined (link_steps c.args.plan c.args.weights.now) c.args.plan.m) in
-    let cleared : List ℕ =
-    (clear (l + 4)) in
-    let products : List ℕ =
-    (joined (product_steps c.args.plan c.args.d.now c.args.beta.now) c.args.plan.t) in
-    let last : List ℕ =
-    (adds (l + 4) (at row) (length row)) in
-    let split : links ++ (cleared ++ (products ++ last)) ≡ layout c.args.plan c.args.weights.now c.args.d.now c.args.beta.now =
-    (layout-split c.args.plan _ _ _ _ _ fits begins c.variables-l.ensures) in
-    let room : Room c.args.out.now 0 (links ++ (cleared ++ (products ++ last))) =
-    (subst (Room c.args.out.now 0) (sym split) c.requires.room) in
-    let products-put = c in
-    let step = products-put in
-    let links-put = step in
-    let r = links-put in
-    (wrote_as split (wrote-4 links cleared products last room links-put.put_links-next.ensures step.put_step-next.ensures products-put.put_products-next.ensures c.put_adds.ensures)).list
+    let r = (goal.at.returns c).After-variables-l in
+    let whole = wrote_as (split r) (wrote-4 (links r) (cleared r) (products r) (last r) (room r) c.links.ensures c.clear.ensures c.products.ensures c.adds.ensures) in
+    let list = whole.list in
+    let same = whole.same in
+    search (rules, list, same)

@@ -1,17 +1,15 @@
--- `readback::calls::figures_match` meets its contract: three numbers, each compared with its figure. Assumes nothing.
-use mathlib.Core.Path.{sym, ◌∙◌}
-use Rattle.readback.proofs.Figures.{first-other, second-other, third-same}
+-- `readback::calls::figures_match` meets its contract: `==` of the three numbers and the three figures. Assumes nothing.
+use mathlib.Core.Path.{ap, ap₂, ◌∙◌}
+use mathlib.Core.List.{[], ◌∷◌}
+use Prim.Native.Nat.{ℕ, ◌+◌, ◌*◌}
+use Rattle.lists.specs.Places.{same}
+use Rattle.lists.proofs.Sameness.{eq-same}
 use Rattle.readback.proofs.calls.figures_match.Goals as goal
-
-pub returns-then-found-plan : goal.returns-then-found-plan
-returns-then-found-plan c =
-    sym (first-other c.args.found.now _ _ _ c.requires.found_len c.if-found-plan.true)
-
-pub returns-then-found-step_count : goal.returns-then-found-step_count
-returns-then-found-step_count c =
-    sym (second-other c.args.found.now _ _ _ c.requires.found_len (λ e. c.if-found-step_count.true (e ∙ sym c.step_count.ensures)))
 
 pub returns : goal.returns
 returns c =
-    third-same c.args.found.now _ _ _ _ c.requires.found_len c.if-found-plan.false
-    (c.if-found-step_count.false ∙ c.step_count.ensures) c.worst.ensures
+    let P = c.args.plan.now.numbers in
+    c.eq.ensures
+    ∙ eq-same c.args.found.now _
+    ∙ ap (same c.args.found.now)
+    (c.as_slice.ensures ∙ ap₂ (λ (count norm : ℕ). (P.m + 2 * P.t) ∷ count ∷ norm ∷ []) c.step_count.ensures c.worst.ensures)

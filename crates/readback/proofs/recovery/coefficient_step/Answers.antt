@@ -3,7 +3,6 @@ use mathlib.Core.Path.{◌≡◌}
 use Prim.Native.Nat.{◌+◌, ◌-◌, ◌*◌}
 use native.Mathlib.Omega.{arith}
 use Rattle.plan.specs.Numbers.{variables}
-use Rattle.program.proofs.Shape.{step-limit}
 use Rattle.readback.specs.Recovery.{first_product}
 use Rattle.readback.proofs.Recovering.{from_end, step-inner, step-last}
 use Rattle.readback.proofs.recovery.coefficient_step.Goals as goal
@@ -18,9 +17,6 @@ counted c =
 
 pub overflow_sub-begin : goal.overflow_sub-begin
 overflow_sub-begin c = omega (arith, counted c)
-
-pub overflow_mul-begin : goal.overflow_mul-begin
-overflow_mul-begin c = omega (arith, counted c.before, c.step_count.ensures, step-limit c.args.plan c.requires.within)
 
 pub overflow_sub-begin-3 : goal.overflow_sub-begin-3
 overflow_sub-begin-3 c = omega (arith, counted c.before)

@@ -1,140 +1,57 @@
 -- `readback::recovery::is_written` meets its contract: the length, the numbers read, and the list that they write (`StepsBack`).
 -- Assumes nothing.
-use mathlib.Core.Bool.{not}
 use mathlib.Core.Path.{◌≡◌, sym, ap, ◌∙◌}
-use mathlib.Core.Bool.{true, false≢true}
 use mathlib.Core.List.{List}
 use Prim.Native.Nat.{ℕ, ◌*◌, ◌≤◌}
 use native.Mathlib.Omega.{arith}
 use lib.ListN.{length}
 use lib.Seq.{length-take-le}
-use borrow.Author.Tests.{not-true, not-false}
 use Rattle.lists.specs.Places.{same}
+use Rattle.lists.proofs.Placing.{placed-whole}
+use Rattle.lists.proofs.Sameness.{eq-same}
 use Rattle.plan.specs.declared.numbers.Plan.{Plan}
+use Rattle.plan.specs.Numbers.{Within}
 use Rattle.program.specs.Layout.{layout, step_count}
-use Rattle.program.proofs.Fronts.{program-room, program-fits, program-written, program-length, program-front}
-use Rattle.readback.specs.Recovery.{recovered}
-use Rattle.readback.proofs.Places.{recovered-length}
+use Rattle.program.proofs.Shape.{layout-length, step-limit}
 use Rattle.readback.proofs.StepsBack.{written-unlike, written_none, written_as}
 use Rattle.readback.proofs.recovery.is_written.Goals as goal
 
+-- the program fits in the array of a whole program
+fits : (P : Plan) (count : ℕ) (buffer : List ℕ) → Within P → count ≡ step_count P → 17228 ≡ length buffer → 4 * count ≤ length buffer
+fits P count buffer within e large = omega (arith, step-limit P within, e, large)
+
 pub overflow_mul-end : goal.overflow_mul-end
-overflow_mul-end c = omega (arith, (program-room c.args.plan c.step_count-end.result c.requires.within c.step_count-end.ensures).0)
+overflow_mul-end c = omega (arith, step-limit _ c.args.plan.now.within, c.step_count-end.ensures)
 
-pub returns-then-steps-end : goal.returns-then-steps-end
-returns-then-steps-end c =
-    let a = c.args in record {
-      value = sym (written-unlike a.plan a.weights.now a.d.now a.steps.now (λ e. omega (arith, e, c.if-steps-end.true, c.step_count-end.ensures)));
-      found_after = λ e. absurd (false≢true e);
-    }
+pub returns-then-steps-end-clause-value : goal.returns-then-steps-end-clause-value
+returns-then-steps-end-clause-value c =
+    sym (written-unlike _ _ _ _ (λ e. omega (arith, e, c.if-steps-end.true, c.step_count-end.ensures)))
 
-pub recover-requires : goal.recover-requires
-recover-requires c =
-    let whole : length c.args.steps.now ≡ 4 * step_count c.args.plan = omega (arith, c.if-steps-end.false, c.step_count-end.ensures) in record {
-      within = c.requires.within;
-      steps_len = whole;
-      found_len = c.requires.found_len;
-    }
+pub returns-then-not-recover-clause-value : goal.returns-then-not-recover-clause-value
+returns-then-not-recover-clause-value c = sym (written_none _ _ _ _ (sym c.if-not-recover.ensures.value))
 
-pub returns-then-not-recover : goal.returns-then-not-recover
-returns-then-not-recover c =
-    let recover = c.recover in
-    let a = c.args in record {
-      value = sym (written_none a.plan a.weights.now a.d.now a.steps.now (sym recover.ensures.value ∙ not-true recover.result (ap not c.if-not-recover.true)));
-      found_after = λ e. absurd (false≢true e);
-    }
+pub slice_bounds-buffer-end : goal.slice_bounds-buffer-end
+slice_bounds-buffer-end c = fits _ _ _ c.args.plan.now.within c.step_count-end.ensures c.steps_buffer-buffer.ensures.value
 
 pub slice_bounds-again-end : goal.slice_bounds-again-end
 slice_bounds-again-end c =
-    let plan : Plan = c.args.plan in
-    let fits : 4 * c.step_count-end.result ≤ length c.steps_buffer-again.result =
-    (let large : 17228 ≤ length c.steps_buffer-again.result = omega (arith, c.steps_buffer-again.ensures.value) in
-    program-fits plan c.step_count-end.result c.requires.within c.step_count-end.ensures large) in
-    fits
+    sym (length-take-le _ _ (fits _ _ c.steps_buffer-buffer.result c.args.plan.now.within c.step_count-end.ensures c.steps_buffer-buffer.ensures.value))
 
-pub slice_bounds-put_program-end : goal.slice_bounds-put_program-end
-slice_bounds-put_program-end c =
-    let plan : Plan = c.args.plan in
-    let fits : 4 * c.step_count-end.result ≤ length c.steps_buffer-again.result =
-    (let large : 17228 ≤ length c.steps_buffer-again.result = omega (arith, c.steps_buffer-again.ensures.value) in
-    program-fits plan c.step_count-end.result c.requires.within c.step_count-end.ensures large) in
-    sym (length-take-le _ _ fits)
+pub put_program-requires-clause-room : goal.put_program-requires-clause-room
+put_program-requires-clause-room c =
+    let plan = c.args.plan.now in
+    let part = length-take-le _ _ (fits _ _ c.steps_buffer-buffer.result plan.within c.step_count-end.ensures c.steps_buffer-buffer.ensures.value) in
+    omega (arith, part, c.step_count-end.ensures, layout-length plan.numbers plan.weights.now plan.products.now c.recover.new.found)
 
-pub put_program-requires : goal.put_program-requires
-put_program-requires c =
-    let plan : Plan = c.args.plan in
+pub returns-clause-value : goal.returns-clause-value
+returns-clause-value c =
+    let plan = c.args.plan.now in
     let steps : List ℕ = c.args.steps.now in
-    let found : List ℕ = c.recover.new.found in
-    let program : List ℕ =
-    (layout plan c.args.weights.now c.args.d.now found) in
-    let all-residues : c.recover.result ≡ true =
-    (not-false c.recover.result (ap not c.if-not-recover.false)) in
-    let read : found ≡ recovered plan steps =
-    (c.recover.ensures.found_after all-residues) in
-    let filled : length program ≡ 4 * c.step_count-end.result =
-    ((program-room plan c.step_count-end.result c.requires.within c.step_count-end.ensures).1 _ _ found) in
-    let fits : 4 * c.step_count-end.result ≤ length c.steps_buffer-again.result =
-    (let large : 17228 ≤ length c.steps_buffer-again.result = omega (arith, c.steps_buffer-again.ensures.value) in
-    program-fits plan c.step_count-end.result c.requires.within c.step_count-end.ensures large) in
-    let r = c in
-    let e = r in
-    let pre = c.requires in
-    let part = length-take-le (4 * c.step_count-end.result) r.steps_buffer-again.result fits in record {
-      within = pre.within;
-      weights_len = pre.weights_len;
-      d_len = (pre.d_len, ap length read ∙ recovered-length plan steps);
-      room = omega (arith, filled, part);
-    }
-
-pub slice_bounds-again-end-2 : goal.slice_bounds-again-end-2
-slice_bounds-again-end-2 c =
-    let plan : Plan = c.args.plan in
-    let found : List ℕ = c.recover.new.found in
-    let program : List ℕ =
-    (layout plan c.args.weights.now c.args.d.now found) in
-    let filled : length program ≡ 4 * c.step_count-end.result =
-    ((program-room plan c.step_count-end.result c.requires.within c.step_count-end.ensures).1 _ _ found) in
-    let fits : 4 * c.step_count-end.result ≤ length c.steps_buffer-again.result =
-    (let large : 17228 ≤ length c.steps_buffer-again.result = omega (arith, c.steps_buffer-again.ensures.value) in
-    program-fits plan c.step_count-end.result c.requires.within c.step_count-end.ensures large) in
-    program-front _ _ program _ fits filled c.put_program.ensures
-
-pub slice_bounds-same_numbers-end : goal.slice_bounds-same_numbers-end
-slice_bounds-same_numbers-end c =
-    let plan : Plan = c.args.plan in
-    let found : List ℕ = c.recover.new.found in
-    let program : List ℕ =
-    (layout plan c.args.weights.now c.args.d.now found) in
-    let filled : length program ≡ 4 * c.step_count-end.result =
-    ((program-room plan c.step_count-end.result c.requires.within c.step_count-end.ensures).1 _ _ found) in
-    let fits : 4 * c.step_count-end.result ≤ length c.steps_buffer-again.result =
-    (let large : 17228 ≤ length c.steps_buffer-again.result = omega (arith, c.steps_buffer-again.ensures.value) in
-    program-fits plan c.step_count-end.result c.requires.within c.step_count-end.ensures large) in
-    program-length _ _ program _ fits filled c.put_program.ensures
-
-pub returns : goal.returns
-returns c =
-    let plan : Plan = c.args.plan in
-    let steps : List ℕ = c.args.steps.now in
-    let found : List ℕ = c.recover.new.found in
-    let program : List ℕ =
-    (layout plan c.args.weights.now c.args.d.now found) in
-    let all-residues : c.recover.result ≡ true =
-    (not-false c.recover.result (ap not c.if-not-recover.false)) in
-    let read : found ≡ recovered plan steps =
-    (c.recover.ensures.found_after all-residues) in
-    let filled : length program ≡ 4 * c.step_count-end.result =
-    ((program-room plan c.step_count-end.result c.requires.within c.step_count-end.ensures).1 _ _ found) in
-    let fits : 4 * c.step_count-end.result ≤ length c.steps_buffer-again.result =
-    (let large : 17228 ≤ length c.steps_buffer-again.result = omega (arith, c.steps_buffer-again.ensures.value) in
-    program-fits plan c.step_count-end.result c.requires.within c.step_count-end.ensures large) in
-    let r = c in
-    let e = r in
-    let a = c.args in
-    let again = program-written _ _ program _ fits filled c.put_program.ensures in
-    let below = sym e.recover.ensures.value ∙ all-residues in record {
-      value = c.same_numbers.ensures
-          ∙ ap (same steps) (again ∙ ap (layout plan a.weights.now a.d.now) read)
-          ∙ sym (written_as plan a.weights.now a.d.now steps below);
-      found_after = λ _. read;
-    }
+    let program = layout plan.numbers plan.weights.now plan.products.now in
+    let part = length-take-le _ _ (fits _ _ c.steps_buffer-buffer.result plan.within c.step_count-end.ensures c.steps_buffer-buffer.ensures.value) in
+    let size = layout-length plan.numbers plan.weights.now plan.products.now c.recover.new.found in
+    let again = c.put_program.ensures ∙ placed-whole _ _ (omega (arith, part, c.step_count-end.ensures, size)) in
+    c.eq.ensures
+    ∙ eq-same steps _
+    ∙ ap (same steps) (again ∙ ap program (c.recover.ensures.found_after c.if-not-recover.false))
+    ∙ sym (written_as plan.numbers plan.weights.now plan.products.now steps (sym c.if-not-recover.ensures.value))

@@ -1,82 +1,48 @@
-use mathlib.Core.Path.{sym, ◌∙◌}
-use mathlib.Core.Bool.{false≢true}
-use Prim.Native.Nat.{◌+◌, ◌≤◌, ◌<◌}
+use mathlib.Core.Path.{◌≡◌, sym, subst, ◌∙◌}
+use mathlib.Core.Bool.{true, false, false≢true}
+use mathlib.Core.List.{List}
+use Prim.Native.Nat.{ℕ, ◌+◌, ◌≤◌, ◌<◌}
 use native.Mathlib.Omega.{arith}
-use lib.ListN.{length}
-use Rattle.lists.specs.Places.{at}
-use Rattle.readback.proofs.Keeping.{putting-none, putting-next, putting-all, short-room, wide-number}
+use lib.ListN.{length, set}
+use Rattle.std.specs.Prelude.{Option, Some, None, IfSome, Result, Ok, Err, OkIff}
+use Rattle.std.specs.Result.{result_ok}
+use Rattle.lists.specs.Places.{placed, at}
+use Rattle.readback.specs.Scanned.{fits, count_after}
+use Rattle.readback.proofs.Keeping.{Putting, putting-next, putting-all, wide-number}
 use Rattle.readback.proofs.scanning.keep_step.Goals as goal
 
-pub overflow_add-end : goal.overflow_add-end
-overflow_add-end c = omega (arith, c.requires.v_len, c.requires.count_in_bounds)
+-- what a conversion that fails says, and one that doesn't
+too_large : {E : Type 0} (r : Result ℕ E) (n : ℕ) → OkIff r (n < 65536) n → result_ok r ≡ None → 65536 ≤ n
+too_large (Ok x) n h e = cc
+too_large (Err x) n h e = omega arith
 
-pub overflow_add-result : goal.overflow_add-result
-overflow_add-result c = omega arith
+small : {E : Type 0} (r : Result ℕ E) (n x : ℕ) → OkIff r (n < 65536) n → result_ok r ≡ Some x → (n < 65536) × (x ≡ n)
+small (Ok y) n x h e = (h.0, cc)
+small (Err y) n x h e = cc
 
-pub returns-then-room-end : goal.returns-then-room-end
-returns-then-room-end c =
+unfit : (v e left : List ℕ) (k : ℕ) (count : Option ℕ) → count ≡ Some k → fits v (length e) k ≡ false
+    → record { value : None ≡ count_after v (length e) count; steps_after : IfSome count (λ j. fits v (length e) j ≡ true → left ≡ placed e j v) }
+unfit v e left k count h none =
+    subst (λ (o : Option ℕ). record { value : None ≡ count_after v (length e) o; steps_after : IfSome o (λ j. fits v (length e) j ≡ true → left ≡ placed e j v) }) (sym h)
+    (record { value = rw none; steps_after = λ t. absurd (false≢true (sym none ∙ t)) })
+
+pub returns-in_err-steps : goal.returns-in_err-steps
+returns-in_err-steps c =
     let a = c.args in
-    let none = short-room a.v.now a.steps.now a.count c.if-room-end.true in record {
-      value = rw none;
-      steps_after = λ t. absurd (false≢true (sym none ∙ t));
-    }
-
-pub loop-i-init : goal.loop-i-init
-loop-i-init c = putting-none _ _ _
-
-pub offset_bounds-v-i : goal.offset_bounds-v-i
-offset_bounds-v-i c = omega arith
-
-pub bounds-v-i : goal.bounds-v-i
-bounds-v-i c = omega arith
-
-pub overflow_add-result-then-number-gt65535 : goal.overflow_add-result-then-number-gt65535
-overflow_add-result-then-number-gt65535 c = omega arith
-
-pub returns-then-number-gt65535 : goal.returns-then-number-gt65535
-returns-then-number-gt65535 c =
-    let a = c.args in
-    let none = wide-number a.v.now a.steps.now a.count c.loop-i.i c.loop-i-test.true (omega (arith, c.if-number-gt65535.true)) in record {
-      value = rw none;
-      steps_after = λ t. absurd (false≢true (sym none ∙ t));
-    }
-
-pub overflow_cast-steps : goal.overflow_cast-steps
-overflow_cast-steps c = omega (arith, c.if-number-gt65535.false)
-
-pub overflow_add-steps : goal.overflow_add-steps
-overflow_add-steps c =
-    let room : c.args.count + length c.args.v.now ≤ length c.args.steps.now = c.if-room-end.false in
-    omega (arith, room)
-
-pub offset_bounds-steps-count : goal.offset_bounds-steps-count
-offset_bounds-steps-count c =
-    let room : c.args.count + length c.args.v.now ≤ length c.args.steps.now = c.if-room-end.false in
-    omega (arith, room)
-
-pub bounds-steps-count : goal.bounds-steps-count
-bounds-steps-count c =
-    let room : c.args.count + length c.args.v.now ≤ length c.args.steps.now = c.if-room-end.false in
-    omega (arith, room, c.loop-i.invariant.size, c.loop-i-test.true)
-
-pub overflow_add-i : goal.overflow_add-i
-overflow_add-i c = omega arith
-
-pub loop-i-smaller : goal.loop-i-smaller
-loop-i-smaller c = omega arith
+    let wide = too_large c.try_from.result (at a.v.now c.loop-i.i) c.try_from.ensures (sym c.ok.ensures.value ∙ c.in_err-steps.was) in
+    let none = unfit a.v.now a.steps.now c.loop-i.steps c.in_ok-before.before a.count c.in_ok-before.was (wide-number a.v.now a.steps.now c.in_ok-before.before c.loop-i.i c.loop-i-test.true wide) in
+    record { value = c.from_residual-in_err-steps.ensures ∙ none.value; steps_after = none.steps_after }
 
 pub loop-i-preserved : goal.loop-i-preserved
 loop-i-preserved c =
-    let room : c.args.count + length c.args.v.now ≤ length c.args.steps.now = c.if-room-end.false in
     let a = c.args in
-    let small : at a.v.now c.loop-i.i < 65536 = omega (arith, c.if-number-gt65535.false) in
-    putting-next a.v.now a.steps.now a.count room c.loop-i.invariant c.loop-i-test.true small
+    let k = c.in_ok-before.before in
+    let kept = small c.try_from.result (at a.v.now c.loop-i.i) c.in_ok-steps.field-0 c.try_from.ensures (sym c.ok.ensures.value ∙ c.in_ok-steps.was) in
+    subst (λ (n : ℕ). Putting a.v.now a.steps.now k (c.loop-i.i + 1) (set c.loop-i.steps (k + c.loop-i.i) n)) (sym kept.1)
+    (putting-next a.v.now a.steps.now k c.if-steps-end.false c.loop-i.invariant c.loop-i-test.true kept.0)
 
-pub returns : goal.returns
-returns c =
-    let room : c.args.count + length c.args.v.now ≤ length c.args.steps.now = c.if-room-end.false in
+pub returns-clause-value : goal.returns-clause-value
+returns-clause-value c =
     let a = c.args in
-    let all = putting-all a.v.now a.steps.now a.count room c.loop-i.invariant (omega (arith, c.loop-i-test.false)) in record {
-      value = rw all.0;
-      steps_after = λ _. all.1;
-    }
+    let all = putting-all a.v.now a.steps.now c.in_ok-before.before c.if-steps-end.false c.loop-i.invariant c.loop-i-test.false in
+    rw (c.in_ok-before.was, all.0)

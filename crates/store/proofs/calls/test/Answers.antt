@@ -1,68 +1,33 @@
--- `store::calls::test` meets its contract: what `admit` refuses, else cause 6 (`Admitting` of plan). Assumes nothing.
-use mathlib.Core.Bool.{not}
-use mathlib.Core.Path.{◌≡◌, sym, ap, ◌∙◌}
-use Prim.Native.Nat.{ℕ}
-use lib.ListN.{length}
-use borrow.Author.Tests.{eqb-true, not-true, not-false}
-use Rattle.plan.specs.Numbers.{columns, answer_of}
-use Rattle.plan.specs.Parts.{Given, given, store_size}
-use Rattle.plan.specs.declared.admission.Own.TheVariants.{Store}
+-- `store::calls::test` meets its contract: what `admit` refuses, else cause 6. Assumes nothing.
+use mathlib.Core.Path.{sym, ap, ◌∙◌}
+use borrow.Author.Tests.{eqb-true}
+use Rattle.std.proofs.lemmas.Result.{err_from_is_err_and}
+use Rattle.plan.specs.Parts.{store_size}
 use Rattle.plan.proofs.Bounds.{modulus}
-use Rattle.plan.proofs.Admitting.{Admitted, admission, turned-away}
-use Rattle.store.specs.Elimination.{is_reduced, cells}
-use Rattle.store.proofs.StoreCalls.{columns-small}
+use Rattle.plan.proofs.Admitting.{passing, turned-away}
+use Rattle.store.proofs.StoreCalls.{columns-small, reduced-told}
 use Rattle.store.proofs.calls.test.Goals as goal
 
-pub columns-requires : goal.columns-requires
-columns-requires c =
-    let lent : Given =
-    (let a = c.args in
-    given a.p a.s a.n a.m a.t a.radices.now a.weights.now a.tables.now a.d.now) in
-    let admitted : Admitted lent (Store (length c.args.store.now)) c.in-Accepted.plan =
-    (admission _ _ (sym c.admit.ensures ∙ ap answer_of c.in-Accepted.is)) in
-    admitted.within
+pub returns-in_err-plan : goal.returns-in_err-plan
+returns-in_err-plan c =
+    let p = err_from_is_err_and c.from_residual.result c.from_residual.ensures.1 in
+    rw (p.1, p.2) (turned-away _ _ c.in_err-plan.ensures.answer _).0
 
 pub is_reduced-requires : goal.is_reduced-requires
 is_reduced-requires c =
-    let lent : Given =
-    (let a = c.args in
-    given a.p a.s a.n a.m a.t a.radices.now a.weights.now a.tables.now a.d.now) in
-    let admitted : Admitted lent (Store (length c.args.store.now)) c.in-Accepted.plan =
-    (admission _ _ (sym c.admit.ensures ∙ ap answer_of c.in-Accepted.is)) in
-    let a = admitted in
-    let e = c.columns.ensures in record {
-      c_bound = columns-small _ a.within e;
-      modulus = modulus a.within;
-      store_len = eqb-true _ _ a.own-fits ∙ ap store_size (sym e);
+    let plan = c.in_ok-plan.plan in
+    let a = passing _ _ plan c.in_ok-plan.ensures in record {
+      c_bound = columns-small _ plan.within c.columns.ensures;
+      modulus = modulus plan.within;
+      store_len = eqb-true _ _ a.own-fits ∙ ap store_size (sym c.columns.ensures);
     }
 
 pub returns-then-not-is_reduced : goal.returns-then-not-is_reduced
 returns-then-not-is_reduced c =
-    let lent : Given =
-    (let a = c.args in
-    given a.p a.s a.n a.m a.t a.radices.now a.weights.now a.tables.now a.d.now) in
-    let admitted : Admitted lent (Store (length c.args.store.now)) c.in-Accepted.plan =
-    (admission _ _ (sym c.admit.ensures ∙ ap answer_of c.in-Accepted.is)) in
-    let sound : let Q = c.in-Accepted.plan in
-    c.is_reduced.result ≡ is_reduced Q.p (columns Q) (cells (columns Q) c.args.store.now) =
-    (let Q = c.in-Accepted.plan in
-    c.is_reduced.ensures ∙ ap (λ (n : ℕ). is_reduced Q.p n (cells n c.args.store.now)) c.columns.ensures) in
-    let a = admitted in
-    sym (a.rest _ ∙ rw (sym sound ∙ not-true c.is_reduced.result (ap not c.if-not-is_reduced.true)))
+    let damaged = reduced-told _ _ c.if-not-is_reduced.ensures c.columns.ensures in
+    sym ((passing _ _ c.in_ok-plan.plan c.in_ok-plan.ensures).rest _ ∙ rw damaged)
 
-pub returns-in-Refused : goal.returns-in-Refused
-returns-in-Refused c = (turned-away _ _ (sym c.admit.ensures ∙ ap answer_of c.in-Refused.is) _).0
-
-pub returns-else-not-is_reduced : goal.returns-else-not-is_reduced
-returns-else-not-is_reduced c =
-    let lent : Given =
-    (let a = c.args in
-    given a.p a.s a.n a.m a.t a.radices.now a.weights.now a.tables.now a.d.now) in
-    let admitted : Admitted lent (Store (length c.args.store.now)) c.in-Accepted.plan =
-    (admission _ _ (sym c.admit.ensures ∙ ap answer_of c.in-Accepted.is)) in
-    let sound : let Q = c.in-Accepted.plan in
-    c.is_reduced.result ≡ is_reduced Q.p (columns Q) (cells (columns Q) c.args.store.now) =
-    (let Q = c.in-Accepted.plan in
-    c.is_reduced.ensures ∙ ap (λ (n : ℕ). is_reduced Q.p n (cells n c.args.store.now)) c.columns.ensures) in
-    let a = admitted in
-    sym (a.rest _ ∙ rw (sym sound ∙ not-false c.is_reduced.result (ap not c.if-not-is_reduced.false)))
+pub returns : goal.returns
+returns c =
+    let sound = reduced-told _ _ c.if-not-is_reduced.ensures c.columns.ensures in
+    sym ((passing _ _ c.in_ok-plan.plan c.in_ok-plan.ensures).rest _ ∙ rw sound)

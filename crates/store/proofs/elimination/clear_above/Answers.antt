@@ -3,53 +3,28 @@ use Prim.Native.Nat.{ℕ, ◌+◌, ◌-◌, ◌<◌}
 use native.Mathlib.Nat.{le_of_lt}
 use native.Mathlib.Omega.{arith}
 use Rattle.lists.proofs.Parts.{part-each}
-use Rattle.store.proofs.Pasting.{RowAt, row_fits, tail-length}
+use Rattle.store.proofs.Pasting.{row_fits, tail-length}
 use Rattle.store.proofs.Clearing.{cleared-none, cleared-next, cleared-all, cleared-start, clears-at, cleared-residues, cut-length}
 use Rattle.store.proofs.elimination.clear_above.Goals as goal
-
-pub overflow_add-width : goal.overflow_add-width
-overflow_add-width c = omega arith
 
 pub loop-r-init : goal.loop-r-init
 loop-r-init c = cleared-none _ _ _ _ _ c.requires.ready.places
 
 pub overflow_add-a : goal.overflow_add-a
 overflow_add-a c =
-    let row : RowAt c.args.c c.loop-r.store c.loop-r.r c.loop-r.begin =
-    (clears-at c.requires.ready.reduced c.requires.line c.requires.k_lt_c c.loop-r.invariant c.loop-r-test.true) in
-    omega (arith, row_fits row)
+    omega (arith, row_fits (clears-at c.requires.ready.reduced c.requires.line c.requires.k_lt_c c.loop-r.invariant c.loop-r-test.true))
 
 pub overflow_add-end : goal.overflow_add-end
 overflow_add-end c =
-    let row : RowAt c.args.c c.loop-r.store c.loop-r.r c.loop-r.begin =
-    (clears-at c.requires.ready.reduced c.requires.line c.requires.k_lt_c c.loop-r.invariant c.loop-r-test.true) in
-    omega (arith, row_fits row)
-
-pub slice_bounds-clear_row-count : goal.slice_bounds-clear_row-count
-slice_bounds-clear_row-count c = omega arith
-
-pub slice_bounds-clear_row-start : goal.slice_bounds-clear_row-start
-slice_bounds-clear_row-start c = omega arith
+    omega (arith, row_fits (clears-at c.requires.ready.reduced c.requires.line c.requires.k_lt_c c.loop-r.invariant c.loop-r-test.true))
 
 pub slice_bounds-clear_row-end : goal.slice_bounds-clear_row-end
 slice_bounds-clear_row-end c =
-    let row : RowAt c.args.c c.loop-r.store c.loop-r.r c.loop-r.begin =
-    (clears-at c.requires.ready.reduced c.requires.line c.requires.k_lt_c c.loop-r.invariant c.loop-r-test.true) in
-    row_fits row
-
-pub slice_bounds-clear_row-count-in-loop-r : goal.slice_bounds-clear_row-count-in-loop-r
-slice_bounds-clear_row-count-in-loop-r c = omega arith
-
-pub slice_bounds-clear_row-start-in-loop-r : goal.slice_bounds-clear_row-start-in-loop-r
-slice_bounds-clear_row-start-in-loop-r c = omega arith
-
-pub slice_bounds-clear_row-end-in-loop-r : goal.slice_bounds-clear_row-end-in-loop-r
-slice_bounds-clear_row-end-in-loop-r c = omega (arith, c.requires.line.places)
+    row_fits (clears-at c.requires.ready.reduced c.requires.line c.requires.k_lt_c c.loop-r.invariant c.loop-r-test.true)
 
 pub clear_row-requires : goal.clear_row-requires
 clear_row-requires c =
-    let row : RowAt c.args.c c.loop-r.store c.loop-r.r c.loop-r.begin =
-    (clears-at c.requires.ready.reduced c.requires.line c.requires.k_lt_c c.loop-r.invariant c.loop-r-test.true) in
+    let row = clears-at c.requires.ready.reduced c.requires.line c.requires.k_lt_c c.loop-r.invariant c.loop-r-test.true in
     let pos : 0 < c.args.p = omega (arith, c.requires.ready.modulus.0) in
     let tail = tail-length row (le_of_lt c.loop-r-test.true) (le_of_lt c.requires.k_lt_c) in record {
       modulus = c.requires.ready.modulus;
@@ -59,21 +34,6 @@ clear_row-requires c =
         part-each (λ (x : ℕ). x < c.args.p) c.args.pivot.now c.args.k (c.args.c + 1 - c.args.k) pos c.requires.line.residues,
       );
     }
-
-pub overflow_sub-begin : goal.overflow_sub-begin
-overflow_sub-begin c = omega arith
-
-pub overflow_add-begin : goal.overflow_add-begin
-overflow_add-begin c =
-    let row : RowAt c.args.c c.loop-r.store c.loop-r.r c.loop-r.begin =
-    (clears-at c.requires.ready.reduced c.requires.line c.requires.k_lt_c c.loop-r.invariant c.loop-r-test.true) in
-    omega (arith, row_fits row)
-
-pub overflow_add-r : goal.overflow_add-r
-overflow_add-r c = omega arith
-
-pub loop-r-smaller : goal.loop-r-smaller
-loop-r-smaller c = omega arith
 
 pub loop-r-preserved : goal.loop-r-preserved
 loop-r-preserved c =

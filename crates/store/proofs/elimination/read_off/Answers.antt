@@ -13,24 +13,12 @@ loop-q-init c = (written_none _ _ _ c.requires.beta_len, omega (arith, start-zer
 pub bounds-store-a : goal.bounds-store-a
 bounds-store-a c =
     let args = c.args in
-    omega (arith, row-end args.c c.loop-q.q c.loop-q-test.true)
-
-pub bounds-beta-q : goal.bounds-beta-q
-bounds-beta-q c = omega arith
-
-pub overflow_sub-a : goal.overflow_sub-a
-overflow_sub-a c = omega arith
+    omega (arith, row-end args.c c.loop-q.q (omega (arith, c.requires.beta_len)))
 
 pub overflow_add-a : goal.overflow_add-a
 overflow_add-a c =
     let args = c.args in
-    omega (arith, row-end args.c c.loop-q.q c.loop-q-test.true)
-
-pub overflow_add-q : goal.overflow_add-q
-overflow_add-q c = omega arith
-
-pub loop-q-smaller : goal.loop-q-smaller
-loop-q-smaller c = omega arith
+    omega (arith, row-end args.c c.loop-q.q (omega (arith, c.requires.beta_len)))
 
 pub loop-q-preserved : goal.loop-q-preserved
 loop-q-preserved c =

@@ -3,12 +3,6 @@ use mathlib.Core.Path.{◌∙◌}
 use Rattle.store.proofs.HalfReading.{half-tested}
 use Rattle.store.proofs.reduced.is_reduced.Goals as goal
 
-pub passes-requires : goal.passes-requires
-passes-requires c = record {
-  c_bound = c.requires.c_bound;
-  store_len = c.requires.store_len;
-}
-
 pub returns : goal.returns
 returns c =
     c.passes.ensures ∙ half-tested c.args.p c.args.c c.args.store.now c.requires.modulus.0 c.requires.store_len

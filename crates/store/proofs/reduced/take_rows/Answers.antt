@@ -1,26 +1,19 @@
-use mathlib.Core.Path.{refl, sym, ap, ◌∙◌}
+use mathlib.Core.Path.{refl, ap, ◌∙◌}
 use Prim.Native.Nat.{◌+◌, ◌-◌, ◌≤◌}
 use native.Mathlib.Omega.{arith}
 use lib.ListN.{length}
-use Rattle.lists.proofs.Parts.{cut-length}
 use Rattle.store.specs.Reading.{State, took, state_after, row_of}
 use Rattle.store.proofs.RowStarts.{start-zero}
 use Rattle.store.proofs.RowTests.{counted-length}
 use Rattle.store.proofs.OneReading.{after_next}
 use Rattle.store.proofs.HalfReading.{row_room, row_cut, row_next}
-use Rattle.store.proofs.TakingRows.{taken_none, taken_next, taken-all, columns-lent}
+use Rattle.store.proofs.TakingRows.{taken_none, taken_next, columns-lent}
 use Rattle.store.proofs.reduced.take_rows.Goals as goal
-
-pub overflow_add-width : goal.overflow_add-width
-overflow_add-width c = omega arith
 
 pub loop-q-init : goal.loop-q-init
 unfolding state_after
 loop-q-init c =
     (taken_none refl c.requires.tops_value, omega (arith, start-zero c.args.c))
-
-pub overflow_sub-end : goal.overflow_sub-end
-overflow_sub-end c = omega arith
 
 pub overflow_add-end : goal.overflow_add-end
 overflow_add-end c =
@@ -30,21 +23,6 @@ overflow_add-end c =
     row_room start.args.c start.args.store.now c.loop-q.q c.loop-q.begin c.loop-q.invariant.1 start.requires.store_len c.loop-q-test.true) in
     omega (arith, ends)
 
-pub slice_bounds-take_row-count : goal.slice_bounds-take_row-count
-slice_bounds-take_row-count c = omega arith
-
-pub slice_bounds-take_row-start : goal.slice_bounds-take_row-start
-slice_bounds-take_row-start c = omega arith
-
-pub slice_bounds-take_row-end : goal.slice_bounds-take_row-end
-slice_bounds-take_row-end c = omega (arith, c.loop-q.invariant.0.places)
-
-pub slice_bounds-take_row-count-in-loop-q : goal.slice_bounds-take_row-count-in-loop-q
-slice_bounds-take_row-count-in-loop-q c = omega arith
-
-pub slice_bounds-take_row-start-in-loop-q : goal.slice_bounds-take_row-start-in-loop-q
-slice_bounds-take_row-start-in-loop-q c = omega arith
-
 pub slice_bounds-take_row-end-in-loop-q : goal.slice_bounds-take_row-end-in-loop-q
 slice_bounds-take_row-end-in-loop-q c =
     let ends : let start = c in
@@ -52,23 +30,6 @@ slice_bounds-take_row-end-in-loop-q c =
     (let start = c in
     row_room start.args.c start.args.store.now c.loop-q.q c.loop-q.begin c.loop-q.invariant.1 start.requires.store_len c.loop-q-test.true) in
     ends
-
-pub take_row-sound-requires : goal.take_row-sound-requires
-take_row-sound-requires c =
-    let ends : let start = c in
-    c.loop-q.begin + (start.args.c + 1 - c.loop-q.q) ≤ length start.args.store.now =
-    (let start = c in
-    row_room start.args.c start.args.store.now c.loop-q.q c.loop-q.begin c.loop-q.invariant.1 start.requires.store_len c.loop-q-test.true) in
-    let count = cut-length c.args.store.now c.loop-q.begin (c.args.c + 1 - c.loop-q.q) ends in record {
-      row_len = count ∙ sym (columns-lent c.loop-q.invariant.0);
-      row_nonzero = omega (arith, count);
-    }
-
-pub overflow_add-q : goal.overflow_add-q
-overflow_add-q c = omega arith
-
-pub loop-q-smaller : goal.loop-q-smaller
-loop-q-smaller c = omega arith
 
 pub loop-q-preserved : goal.loop-q-preserved
 loop-q-preserved c =
@@ -85,9 +46,3 @@ loop-q-preserved c =
           (after_next start.args.p C (row_of C store) loop.q),
       row_next C store loop.q loop.begin loop.invariant.1 turn.loop-q-test.true,
     )
-
-pub returns : goal.returns
-returns c = record {
-  tops_len = c.loop-q.invariant.0.places;
-  tops_after = taken-all c.loop-q.invariant.0 c.loop-q-test.false;
-}

@@ -1,20 +1,21 @@
 -- `text::ending::print_text` meets its contract: buffers of its own, where there is room for the output. Assumes nothing.
+use Rattle.std.proofs.Common.{rules}
 use borrow.Author.Tests.{lt-ltb, le-ltb}
 use Rattle.text.specs.Meaning.{printed, printed_length}
 use Rattle.text.proofs.ending.print_text.Goals as goal
 
-pub returns-then-out-lt131072 : goal.returns-then-out-lt131072
-unfolding printed printed_length
-returns-then-out-lt131072 c = record {
-  out_after = rw (lt-ltb _ 131072 c.if-out-lt131072.true);
-  value = rw (lt-ltb _ 131072 c.if-out-lt131072.true);
-}
+pub returns-then-out-lt-OUTPUT-clause-out_after : goal.returns-then-out-lt-OUTPUT-clause-out_after
+unfolding printed
+returns-then-out-lt-OUTPUT-clause-out_after c = rw (lt-ltb _ 131072 c.if-out-lt-OUTPUT.true)
 
-pub returns : goal.returns
-unfolding printed printed_length
-returns c =
-    let if1 = c.if-out-lt131072 in
-    let print-read = c.print_read in record {
-      out_after = rw (le-ltb _ 131072 if1.false) print-read.ensures.out_after;
-      value = rw (le-ltb _ 131072 if1.false) print-read.ensures.value;
-    }
+pub returns-then-out-lt-OUTPUT-clause-value : goal.returns-then-out-lt-OUTPUT-clause-value
+unfolding printed_length
+returns-then-out-lt-OUTPUT-clause-value c = rw (lt-ltb _ 131072 c.if-out-lt-OUTPUT.true)
+
+pub returns-clause-out_after : goal.returns-clause-out_after
+unfolding printed
+returns-clause-out_after c = rw (le-ltb _ 131072 c.if-out-lt-OUTPUT.false) (search (rules, c.print_read.ensures.kept.out))
+
+pub returns-clause-value : goal.returns-clause-value
+unfolding printed_length
+returns-clause-value c = rw (le-ltb _ 131072 c.if-out-lt-OUTPUT.false) c.print_read.ensures.value

@@ -1,35 +1,11 @@
-use mathlib.Core.Path.{refl, sym, ap, ◌∙◌}
-use native.Mathlib.Nat.{le_antisymm}
-use native.Mathlib.Omega.{arith}
-use borrow.Author.Tests.{lt-ltb}
-use Rattle.lists.specs.Places.{every}
-use Rattle.lists.proofs.Tests.{both, every-next}
-use Rattle.field.proofs.Ranges.{below_none}
+-- `text::reading::numbers_below` meets its contract. Assumes nothing.
+use Rattle.std.proofs.Common.{rules, tests, nat_lt, ℕ, ◌∙◌}
+use Rattle.std.proofs.lemmas.Iterator.{YieldsList-from_slice}
+use Rattle.std.proofs.lemmas.Iterator.Search.{all_from_yields_List}
+use Rattle.text.proofs.Parting.{all-below}
 use Rattle.text.proofs.reading.numbers_below.Goals as goal
 
-pub loop-i-init : goal.loop-i-init
-unfolding every
-loop-i-init c = (omega arith, refl)
-
-pub offset_bounds-xs-i : goal.offset_bounds-xs-i
-offset_bounds-xs-i c = omega arith
-
-pub bounds-xs-i : goal.bounds-xs-i
-bounds-xs-i c = omega arith
-
-pub returns-then-p-xs : goal.returns-then-p-xs
-returns-then-p-xs c = sym (below_none _ c.args.xs.now _ c.loop-i-test.true c.if-p-xs.true)
-
-pub overflow_add-i : goal.overflow_add-i
-overflow_add-i c = omega arith
-
-pub loop-i-smaller : goal.loop-i-smaller
-loop-i-smaller c = omega arith
-
-pub loop-i-preserved : goal.loop-i-preserved
-loop-i-preserved c =
-    let loop = c.loop-i in
-    (omega arith, every-next _ loop.i ∙ both _ _ loop.invariant.1 (lt-ltb _ _ c.if-p-xs.false))
-
 pub returns : goal.returns
-returns c = sym (ap (every _) (sym (le_antisymm c.loop-i.invariant.0 c.loop-i-test.false)) ∙ c.loop-i.invariant.1)
+returns c =
+    all_from_yields_List (λ (x : ℕ). nat_lt x c.args.p) _ _ _ c.all.ensures.ran (YieldsList-from_slice c.args.xs.now cc) (λ x b q k. search (rules, tests))
+    ∙ all-below _ _

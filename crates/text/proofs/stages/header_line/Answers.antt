@@ -1,49 +1,31 @@
 -- `text::stages::header_line` meets its contract: 13 first, then the constructor's refusal, then 14. Assumes nothing.
-use mathlib.Core.Bool.{not}
-use mathlib.Core.Path.{◌≡◌, sym, ap, ◌∙◌}
-use mathlib.Core.Bool.{true}
-use borrow.Author.Tests.{not-true, not-false}
-use Rattle.plan.specs.Numbers.{answer_of}
+use Rattle.std.proofs.Common.{refl, sym}
+use Rattle.std.proofs.lemmas.Result.{err_from_is_err_and}
 use Rattle.plan.proofs.Limits.{accepted-within}
-use Rattle.lines.specs.Lines.{asks}
 use Rattle.text.proofs.Judging.{header-thirteen, header_refused, header-wide, header-passed}
 use Rattle.text.proofs.stages.header_line.Goals as goal
 
-pub returns-then-not-read_line : goal.returns-then-not-read_line
-returns-then-not-read_line c = record {
-  fits_after = tt;
-  judgement = λ R w T d S. header-thirteen _ (sym c.read_line.ensures.0 ∙ not-true _ (ap not c.if-not-read_line.true));
-}
+pub returns-then-not-read_line-clause-judgement : goal.returns-then-not-read_line-clause-judgement
+returns-then-not-read_line-clause-judgement c = λ R w T d S. header-thirteen _ c.if-not-read_line.ensures.0
+
+pub returns-in_err-plan-clause-judgement : goal.returns-in_err-plan-clause-judgement
+returns-in_err-plan-clause-judgement c =
+    let p = err_from_is_err_and c.from_residual.result c.from_residual.ensures.1 in
+    let asked = c.if-not-read_line.ensures in
+    λ R w T d S. rw (p.1, p.2) (header_refused _ _ asked.0 (asked.1 refl) _ c.in_err-plan.ensures)
 
 pub columns-requires : goal.columns-requires
-columns-requires c = accepted-within _ _ _ _ _ _ (sym c.new.ensures ∙ ap answer_of c.in-Accepted.is)
+columns-requires c = accepted-within _ _ _ _ _ _ (sym c.in_ok-plan.ensures)
 
-pub returns-then-columns-gt360 : goal.returns-then-columns-gt360
-returns-then-columns-gt360 c =
-    let asked : asks 5 5 c.args.line.now ≡ true =
-    (sym c.read_line.ensures.0 ∙ not-false _ (ap not c.if-not-read_line.false)) in
-    let read-line = c.read_line in
-    let accepted = sym c.new.ensures ∙ ap answer_of c.in-Accepted.is in record {
-      fits_after = tt;
-      judgement = λ R w T d S. header-wide _ _ (read-line.ensures.1 (not-false _ (ap not c.if-not-read_line.false))) asked _ accepted (rw c.columns.ensures at c.if-columns-gt360.true);
-    }
+pub returns-then-columns-gt360-clause-judgement : goal.returns-then-columns-gt360-clause-judgement
+returns-then-columns-gt360-clause-judgement c =
+    let asked = c.if-not-read_line.ensures in
+    λ R w T d S. header-wide _ _ asked.0 (asked.1 refl) _ c.in_ok-plan.ensures (rw c.columns.ensures at c.if-columns-gt360.true)
 
-pub returns-in-Refused : goal.returns-in-Refused
-returns-in-Refused c =
-    let asked : asks 5 5 c.args.line.now ≡ true =
-    (sym c.read_line.ensures.0 ∙ not-false _ (ap not c.if-not-read_line.false)) in
-    let read-line = c.read_line in record {
-      fits_after = tt;
-      judgement = λ R w T d S. header_refused _ _ (read-line.ensures.1 (not-false _ (ap not c.if-not-read_line.false))) asked _ (sym c.new.ensures ∙ ap answer_of c.in-Refused.is);
-    }
+pub returns-clause-fits_after : goal.returns-clause-fits_after
+returns-clause-fits_after c = (accepted-within _ _ _ _ _ _ (sym c.in_ok-plan.ensures), rw c.columns.ensures at c.if-columns-gt360.false)
 
-pub returns-else-columns-gt360 : goal.returns-else-columns-gt360
-returns-else-columns-gt360 c =
-    let asked : asks 5 5 c.args.line.now ≡ true =
-    (sym c.read_line.ensures.0 ∙ not-false _ (ap not c.if-not-read_line.false)) in
-    let read-line = c.read_line in
-    let accepted = sym c.new.ensures ∙ ap answer_of c.in-Accepted.is in
-    let narrow = rw c.columns.ensures at c.if-columns-gt360.false in record {
-      fits_after = (accepted-within _ _ _ _ _ _ accepted, narrow);
-      judgement = λ R w T d S. header-passed _ _ (read-line.ensures.1 (not-false _ (ap not c.if-not-read_line.false))) asked _ accepted narrow;
-    }
+pub returns-clause-judgement : goal.returns-clause-judgement
+returns-clause-judgement c =
+    let asked = c.if-not-read_line.ensures in
+    λ R w T d S. header-passed _ _ asked.0 (asked.1 refl) _ c.in_ok-plan.ensures (rw c.columns.ensures at c.if-columns-gt360.false)

@@ -1,19 +1,9 @@
 -- `text::stages::names_line` meets its contract. Assumes nothing.
-use mathlib.Core.Path.{ap}
-use mathlib.Core.Bool.{not}
-use mathlib.Core.Path.{sym, ◌∙◌}
-use borrow.Author.Tests.{not-true, not-false}
-use Rattle.text.proofs.Entering.{names-thirteen, names-passed}
+use Rattle.text.proofs.Entering.{names-thirteen, names-passed, unlike, alike}
 use Rattle.text.proofs.stages.names_line.Goals as goal
 
-pub returns-then-not-same : goal.returns-then-not-same
-returns-then-not-same c = record {
-  fits_after = tt;
-  judgement = λ R w T d S. names-thirteen _ (sym c.same.ensures ∙ not-true _ (ap not c.if-not-same.true));
-}
+pub returns-then-ne-clause-judgement : goal.returns-then-ne-clause-judgement
+returns-then-ne-clause-judgement c = λ R w T d S. names-thirteen _ (unlike _ _ _ c.as_slice.ensures c.if-ne.ensures)
 
-pub returns : goal.returns
-returns c = record {
-  fits_after = tt;
-  judgement = λ R w T d S. names-passed _ (sym c.same.ensures ∙ not-false _ (ap not c.if-not-same.false));
-}
+pub returns-clause-judgement : goal.returns-clause-judgement
+returns-clause-judgement c = λ R w T d S. names-passed _ (alike _ _ _ c.as_slice.ensures c.if-ne.ensures)

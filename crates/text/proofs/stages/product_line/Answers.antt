@@ -1,21 +1,18 @@
 -- `text::stages::product_line` meets its contract. Assumes nothing.
-use mathlib.Core.Path.{◌∙◌}
-use native.Mathlib.Omega.{arith}
-use Rattle.text.proofs.Judging.{product-refuses, product-reaches}
+use Rattle.std.proofs.Common.{ap, ◌∙◌, arith}
+use Rattle.std.proofs.lemmas.Result.{err_from_is_err_and}
+use Rattle.text.specs.Meaning.{next, judged}
+use Rattle.text.proofs.Judging.{stops, product-reaches}
 use Rattle.text.proofs.stages.product_line.Goals as goal
 
-pub returns-then-cause-ne0 : goal.returns-then-cause-ne0
-returns-then-cause-ne0 c =
-    let args = c.args in record {
-      fits_after = tt;
-      judgement = λ R w T S. product-refuses args.plan args.j _ _ args.line.now c.part_line-cause.ensures.r_value _ _ _ c.if-cause-ne0.true;
-    }
+pub returns-in_err-part_line-clause-judgement : goal.returns-in_err-part_line-clause-judgement
+unfolding judged
+returns-in_err-part_line-clause-judgement c =
+    let p = err_from_is_err_and c.from_residual.result c.from_residual.ensures.1 in
+    λ R w T S. rw (p.1, p.2) (stops _ _ _ c.in_err-part_line.ensures.refusal)
 
-pub returns : goal.returns
-returns c =
-    let pre = c.requires in
-    let args = c.args in record {
-      fits_after = c.after_products.ensures.fits_after;
-      judgement = λ R w T S. c.after_products.ensures.judgement R w T _ S
-          ∙ product-reaches args.plan args.j _ _ args.line.now c.part_line-cause.ensures.r_value _ _ args.d.now _ args.c c.if-cause-ne0.false (omega (arith, pre)) c.part_line-cause.ensures.buffer_after;
-    }
+pub returns-clause-judgement : goal.returns-clause-judgement
+returns-clause-judgement c =
+    let accepted = c.in_ok-part_line.ensures in
+    λ R w T S. ap next (c.after_products.ensures.place R w T _ S)
+    ∙ product-reaches c.args.filled c.args.j R w T _ _ _ accepted.refusal (omega (arith, c.requires)) accepted.buffer_after

@@ -1,57 +1,22 @@
 -- `text::stages::radices_line` meets its contract: the radices are the front of their buffer. Assumes nothing.
-use mathlib.Core.Path.{◌≡◌, sym, ap, ◌∙◌}
-use Prim.Native.Nat.{ℕ}
-use native.Mathlib.Omega.{arith}
-use lib.ListN.{length, take}
+use Rattle.std.proofs.Common.{ap, ◌∙◌, ℕ, arith}
+use Rattle.std.proofs.lemmas.Result.{err_from_is_err_and}
 use lib.Seq.{length-take-le}
 use Rattle.plan.specs.Causes.{first}
-use Rattle.text.specs.Meaning.{radices_causes}
-use Rattle.text.proofs.Judging.{radices-refuses, radices-reaches}
+use Rattle.text.specs.Meaning.{radices_causes, next, judged}
+use Rattle.text.proofs.Judging.{stops, radices-reaches}
 use Rattle.text.proofs.stages.radices_line.Goals as goal
 
-pub slice_bounds-read_radices-end : goal.slice_bounds-read_radices-end
-slice_bounds-read_radices-end c =
-    let numbers-front : length (take c.args.plan.n c.numbers_buffer-read.result) ≡ c.args.plan.n =
-    (length-take-le c.args.plan.n c.numbers_buffer-read.result (omega (arith, c.numbers_buffer-read.ensures, c.requires.fits.0.variable-limit))) in
-    sym numbers-front
+pub returns-in_err-read_radices-clause-judgement : goal.returns-in_err-read_radices-clause-judgement
+unfolding judged
+returns-in_err-read_radices-clause-judgement c =
+    let p = err_from_is_err_and c.from_residual.result c.from_residual.ensures.1 in
+    let size = length-take-le c.args.plan.n c.args.radices.now (omega (arith, c.requires.fits.0.variable-limit, c.requires.in_bounds)) in
+    λ w T d S. rw (p.1, p.2) (stops _ _ _ (c.in_err-read_radices.ensures.refusal ∙ ap (λ (n : ℕ). first (radices_causes n c.args.plan.p c.args.line.now)) size))
 
-pub slice_bounds-read_radices-end-3 : goal.slice_bounds-read_radices-end-3
-slice_bounds-read_radices-end-3 c =
-    let radices-front : length (take c.args.plan.n c.args.radices.now) ≡ c.args.plan.n =
-    (length-take-le c.args.plan.n c.args.radices.now (omega (arith, c.requires.fits.0.variable-limit, c.requires.in_bounds))) in
-    sym radices-front
-
-pub read_radices-cause-requires : goal.read_radices-cause-requires
-read_radices-cause-requires c =
-    let numbers-front : length (take c.args.plan.n c.numbers_buffer-read.result) ≡ c.args.plan.n =
-    (length-take-le c.args.plan.n c.numbers_buffer-read.result (omega (arith, c.numbers_buffer-read.ensures, c.requires.fits.0.variable-limit))) in
-    let radices-front : length (take c.args.plan.n c.args.radices.now) ≡ c.args.plan.n =
-    (length-take-le c.args.plan.n c.args.radices.now (omega (arith, c.requires.fits.0.variable-limit, c.requires.in_bounds))) in
-    record {
-      radices_len_bound = omega (arith, radices-front, c.requires.fits.0.variable-limit);
-      read_len = numbers-front ∙ sym radices-front;
-    }
-
-pub returns-then-cause-ne0 : goal.returns-then-cause-ne0
-returns-then-cause-ne0 c =
-    let radices-front : length (take c.args.plan.n c.args.radices.now) ≡ c.args.plan.n =
-    (length-take-le c.args.plan.n c.args.radices.now (omega (arith, c.requires.fits.0.variable-limit, c.requires.in_bounds))) in
-    let cause-is : c.read_radices-cause.result ≡ first (radices_causes c.args.plan.n c.args.plan.p c.args.line.now) =
-    (c.read_radices-cause.ensures.r_value ∙ ap (λ (n : ℕ). first (radices_causes n c.args.plan.p c.args.line.now)) radices-front) in
-    let args = c.args in record {
-      fits_after = tt;
-      judgement = λ w T d S. radices-refuses args.plan _ args.line.now cause-is c.if-cause-ne0.true;
-    }
-
-pub returns : goal.returns
-returns c =
-    let radices-front : length (take c.args.plan.n c.args.radices.now) ≡ c.args.plan.n =
-    (length-take-le c.args.plan.n c.args.radices.now (omega (arith, c.requires.fits.0.variable-limit, c.requires.in_bounds))) in
-    let cause-is : c.read_radices-cause.result ≡ first (radices_causes c.args.plan.n c.args.plan.p c.args.line.now) =
-    (let s = c in
-    c.read_radices-cause.ensures.r_value ∙ ap (λ (n : ℕ). first (radices_causes n s.args.plan.p s.args.line.now)) radices-front) in
-    let s = c in record {
-      fits_after = c.after_links.ensures.fits_after;
-      judgement = λ w T d S. c.after_links.ensures.judgement _ w T d S
-          ∙ radices-reaches s.args.plan _ s.args.line.now cause-is _ _ _ c.if-cause-ne0.false (c.read_radices-cause.auto.radices ∙ radices-front) c.read_radices-cause.ensures.radices_after;
-    }
+pub returns-clause-judgement : goal.returns-clause-judgement
+returns-clause-judgement c =
+    let size = length-take-le c.args.plan.n c.args.radices.now (omega (arith, c.requires.fits.0.variable-limit, c.requires.in_bounds)) in
+    let accepted = c.in_ok-read_radices.ensures.refusal ∙ ap (λ (n : ℕ). first (radices_causes n c.args.plan.p c.args.line.now)) size in
+    λ w T d S. ap next (c.after_links.ensures.place _ w T d S)
+    ∙ radices-reaches c.args.plan _ _ _ accepted (c.read_radices.auto.radices ∙ size) c.in_ok-read_radices.ensures.radices_after

@@ -1,34 +1,33 @@
 -- `text::stages::table_line` meets its contract. Assumes nothing.
-use mathlib.Core.Path.{◌∙◌}
-use native.Mathlib.Omega.{arith}
+use Rattle.std.proofs.Common.{ap, ◌∙◌, arith}
+use Rattle.std.proofs.lemmas.Result.{err_from_is_err_and}
 use Rattle.plan.proofs.Bounds.{prime-high}
-use Rattle.text.proofs.Judging.{table-refuses, table-reaches}
+use Rattle.text.specs.Meaning.{next, judged}
+use Rattle.text.proofs.Judging.{stops, table-reaches}
 use Rattle.text.proofs.stages.table_line.Goals as goal
 
-pub part_line-cause-requires : goal.part_line-cause-requires
-part_line-cause-requires c =
-    let pre = c.requires in
-    (omega (arith, pre, prime-high pre.fits.0.0), omega (arith, prime-high pre.fits.0.0))
+pub part_line-requires : goal.part_line-requires
+part_line-requires c =
+    let high = prime-high c.requires.fits.1.planned.0 in
+    (omega (arith, c.requires, high), omega (arith, high))
 
-pub returns-then-cause-ne0 : goal.returns-then-cause-ne0
-returns-then-cause-ne0 c =
-    let args = c.args in record {
-      fits_after = tt;
-      judgement = λ R w d S. table-refuses args.plan args.k _ _ args.line.now c.part_line-cause.ensures.r_value _ _ _ c.if-cause-ne0.true;
+pub returns-in_err-part_line-clause-judgement : goal.returns-in_err-part_line-clause-judgement
+unfolding judged
+returns-in_err-part_line-clause-judgement c =
+    let p = err_from_is_err_and c.from_residual.result c.from_residual.ensures.1 in
+    λ R w d S. rw (p.1, p.2) (stops _ _ _ c.in_err-part_line.ensures.refusal)
+
+pub after_links-requires-clause-filled_to : goal.after_links-requires-clause-filled_to
+after_links-requires-clause-filled_to c =
+    let f = c.requires.fits.1 in record {
+      planned = f.planned;
+      weights = f.weights;
+      tables = omega (arith, f.tables, prime-high f.planned.0);
+      products = f.products;
     }
 
-pub after_links-requires : goal.after_links-requires
-after_links-requires c =
-    let pre = c.requires in record {
-      planned = pre.fits.0;
-      a_bound = (omega (arith, pre), omega (arith, pre, prime-high pre.fits.0.0), omega (arith, pre));
-    }
-
-pub returns : goal.returns
-returns c =
-    let pre = c.requires in
-    let args = c.args in record {
-      fits_after = c.after_links.ensures.fits_after;
-      judgement = λ R w d S. c.after_links.ensures.judgement R w _ d S
-          ∙ table-reaches args.plan args.k _ _ args.line.now c.part_line-cause.ensures.r_value _ args.tables.now _ _ args.b c.if-cause-ne0.false (omega (arith, pre, prime-high pre.fits.0.0)) c.part_line-cause.ensures.buffer_after;
-    }
+pub returns-clause-judgement : goal.returns-clause-judgement
+returns-clause-judgement c =
+    let accepted = c.in_ok-part_line.ensures in
+    λ R w d S. ap next (c.after_links.ensures.place R w _ d S)
+    ∙ table-reaches c.args.filled c.args.k R w _ d _ _ accepted.refusal (omega (arith, c.requires, prime-high c.requires.fits.1.planned.0)) accepted.buffer_after

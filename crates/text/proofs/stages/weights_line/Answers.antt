@@ -1,19 +1,17 @@
 -- `text::stages::weights_line` meets its contract. Assumes nothing.
-use native.Mathlib.Omega.{arith}
-use Rattle.text.proofs.Judging.{weights-refuses, weights-reaches}
+use Rattle.std.proofs.Common.{arith}
+use Rattle.std.proofs.lemmas.Result.{err_from_is_err_and}
+use Rattle.text.specs.Meaning.{judged}
+use Rattle.text.proofs.Judging.{stops, weights-reaches}
 use Rattle.text.proofs.stages.weights_line.Goals as goal
 
-pub returns-then-cause-ne0 : goal.returns-then-cause-ne0
-returns-then-cause-ne0 c =
-    let args = c.args in record {
-      fits_after = tt;
-      judgement = λ R T d S. weights-refuses args.plan args.k _ _ args.line.now c.part_line-cause.ensures.r_value _ _ _ c.if-cause-ne0.true;
-    }
+pub returns-in_err-part_line-clause-judgement : goal.returns-in_err-part_line-clause-judgement
+unfolding judged
+returns-in_err-part_line-clause-judgement c =
+    let p = err_from_is_err_and c.from_residual.result c.from_residual.ensures.1 in
+    λ R T d S. rw (p.1, p.2) (stops _ _ _ c.in_err-part_line.ensures.refusal)
 
-pub returns : goal.returns
-returns c =
-    let pre = c.requires in
-    let args = c.args in record {
-      fits_after = (pre.fits.0, pre.fits.1, omega (arith, pre), pre.fits.3);
-      judgement = λ R T d S. weights-reaches args.plan args.k _ _ args.line.now c.part_line-cause.ensures.r_value args.weights.now _ _ _ args.a c.if-cause-ne0.false (omega (arith, pre)) c.part_line-cause.ensures.buffer_after;
-    }
+pub returns-clause-judgement : goal.returns-clause-judgement
+returns-clause-judgement c =
+    let accepted = c.in_ok-part_line.ensures in
+    λ R T d S. weights-reaches c.args.filled c.args.k R _ T d _ _ accepted.refusal (omega (arith, c.requires)) accepted.buffer_after

