@@ -173,7 +173,7 @@
  *
  * The library works on the stack of its caller. CELERY_STACK_.. below has the most
  * that each call takes on any of its ways, its arguments included: measured, and
- * rounded up by 100 to 200 bytes, against what another compiler of the host may
+ * rounded up by 30 to 230 bytes, against what another compiler of the host may
  * take for the arguments. A thread that makes the call needs so much beyond what
  * the host takes up to there. The C library's memcpy and memset, which are all that
  * is called outside, are in it, but not the loader: in a program that binds

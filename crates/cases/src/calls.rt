@@ -30,6 +30,17 @@ fn list<T: Display>(rt: &impl Print, name: &str, part: &[T]) -> io::Result<()> {
     rt.println("")
 }
 
+// How many of these are no longer nines.
+fn changed(nines: &[u8]) -> usize {
+    let mut count: usize = 0;
+    for byte in nines {
+        if *byte != 9 {
+            count += 1;
+        }
+    }
+    count
+}
+
 // A text printed into the first bytes of these nines: the output, and how many bytes behind it have changed.
 fn print_into(rt: &impl Print, text: &[u8], room: usize, nines: &mut [u8]) -> io::Result<()> {
     let room = room.min(nines.len());
@@ -37,16 +48,13 @@ fn print_into(rt: &impl Print, text: &[u8], room: usize, nines: &mut [u8]) -> io
     let (printed, behind) = nines.split_at(end.min(nines.len()));
     say(rt, "length", end)?;
     rt.write_all(printed)?;
-    say(
-        rt,
-        "changed behind it",
-        behind.iter().filter(|byte| **byte != 9).count(),
-    )
+    say(rt, "changed behind it", changed(behind))
 }
 
 impl Held {
-    // Does what a command says, and prints the answer.
-    pub fn obey(&mut self, rt: &impl Print, command: Command) -> io::Result<()> {
+    // Does what a command says, and prints the answer. (Not inlined: a line of the text would pay for what the calls hold.)
+    #[inline(never)]
+    pub fn obey(&mut self, rt: &impl Print, command: Command<'_>) -> io::Result<()> {
         match command {
             Command::Plan { p, s, n, m, t } => {
                 self.plan.p = p;
@@ -57,7 +65,7 @@ impl Held {
                 Ok(())
             }
             Command::Set(part, numbers) => {
-                self.set(part, &numbers);
+                self.set(part, numbers);
                 Ok(())
             }
             Command::CheckPlan => self.check_plan(rt),
@@ -213,7 +221,8 @@ impl Held {
         list(rt, "beta", self.beta.as_slice())
     }
 
-    // The text printed into the first bytes of 131,072 nines. Then the text is empty.
+    // The text printed into the first bytes of 131,072 nines. Then the text is empty. (Not inlined: each call would pay for the nines.)
+    #[inline(never)]
     fn print_text(&mut self, rt: &impl Print, room: usize) -> io::Result<()> {
         let mut nines = [9; 131072];
         print_into(rt, self.text.as_slice(), room, &mut nines)?;

@@ -1,16 +1,20 @@
 // A line of the vectors as a command: what it sets, or which call it makes.
-ghost use Rattle.std.specs.Prelude.{◌≤◌, IfOk};
-ghost use Rattle.arrayvec.specs.ArrayVec.{array_vec_len};
+ghost use Rattle.std.specs.Prelude.{◌≤◌, OnOk, length};
+ghost use Rattle.cases.specs.declared.command.TheConstants.{MOST};
 
-use arrayvec::{ArrayVec, CapacityError};
 use std::str;
 use std::str::FromStr;
 
 // The most numbers of a line, and so of a part.
 pub const MOST: usize = 2048;
 
-// The numbers of a line.
-pub type Numbers = ArrayVec<usize, MOST>;
+// The numbers of a line: the first `count` of the places, which serve every line.
+#[derive(Drop)]
+pub struct Numbers {
+    places: [usize; MOST],
+    count: usize,
+    ghost fits: { count ≤ MOST },
+}
 
 // A part that a line sets.
 #[derive(Clone, Copy)]
@@ -27,9 +31,9 @@ pub enum Part {
     Steps,
 }
 
-// What a line asks for. A call's numbers stand with it.
-#[derive(Drop)]
-pub enum Command {
+// What a line asks for. A call's numbers stand with it; those of a part are lent.
+#[derive(Clone, Copy)]
+pub enum Command<'a> {
     Plan {
         p: usize,
         s: usize,
@@ -37,7 +41,7 @@ pub enum Command {
         m: usize,
         t: usize,
     },
-    Set(Part, Numbers),
+    Set(Part, &'a Numbers),
     CheckPlan,
     RowOf(usize),
     TestStore,
@@ -68,13 +72,6 @@ pub enum Fault {
     Malformed,
 }
 
-// A line with more numbers than fit is malformed.
-impl From<CapacityError<usize>> for Fault {
-    fn from(_error: CapacityError<usize>) -> Fault {
-        Fault::Malformed
-    }
-}
-
 impl FromStr for Part {
     type Err = Fault;
 
@@ -96,38 +93,74 @@ impl FromStr for Part {
 }
 
 // How often a number counts, and the number: 20 and 2 for `20*2`. A number above 2^64 - 1 stays there.
-fn number(word: &str) -> Result<(usize, usize), Fault> {
+fn number(word: &[u8]) -> Result<(usize, usize), Fault> {
     let mut times: usize = 1;
     let mut value: usize = 0;
-    for c in word.chars() {
-        if c == '*' {
-            times = value;
-            value = 0;
-        } else {
-            let digit = c.to_digit(10).ok_or(Fault::Malformed)?;
-            value = value.saturating_mul(10).saturating_add(digit as usize);
+    for byte in word {
+        match *byte {
+            b'*' => {
+                times = value;
+                value = 0;
+            }
+            digit @ b'0'..=b'9' => {
+                value = value
+                    .saturating_mul(10)
+                    .saturating_add((digit - b'0') as usize);
+            }
+            _ => return Err(Fault::Malformed),
         }
     }
     Ok((times, value))
 }
 
-// The numbers of a line, from its words behind the first.
-fn numbers(words: &str) -> Result<Numbers, Fault>
-    ensures { IfOk result (λ numbers. array_vec_len numbers ≤ MOST) }
-{
-    let mut numbers = ArrayVec::new();
-    for word in words.split(' ') {
-        let (times, value) = number(word)?;
-        for _ in 0..times {
-            numbers.try_push(value)?;
+impl Numbers {
+    // No number.
+    pub fn new() -> Numbers {
+        Numbers {
+            places: [0; MOST],
+            count: 0,
         }
     }
-    Ok(numbers)
+
+    // The numbers.
+    pub fn as_slice(&self) -> &[usize]
+        ensures { length result.now ≤ MOST }
+    {
+        &self.places[..self.count]
+    }
+
+    // Takes every number away; the places stay as they are.
+    fn clear(&mut self) {
+        self.count = 0;
+    }
+
+    // Adds a number as often as it counts. With more numbers than fit a line is malformed.
+    fn add(&mut self, times: usize, value: usize) -> Result<(), Fault> {
+        if times > MOST - self.count {
+            return Err(Fault::Malformed);
+        }
+        let end = self.count + times;
+        self.places[self.count..end].fill(value);
+        self.count = end;
+        Ok(())
+    }
+
+    // Reads the numbers of a line, from its words behind the first.
+    fn read(&mut self, words: &str) -> Result<(), Fault>
+        ensures { OnOk result (self.new.count ≤ MOST) }
+    {
+        self.clear();
+        for word in words.as_bytes().split(|byte| *byte == b' ') {
+            let (times, value) = number(word)?;
+            self.add(times, value)?;
+        }
+        Ok(())
+    }
 }
 
-impl Command {
+impl<'a> Command<'a> {
     // The command of a line. Each number has a space or the line's end behind it: one that the input breaks off does not count.
-    pub fn parse(line: &[u8]) -> Result<Command, Fault> {
+    pub fn parse(line: &[u8], numbers: &'a mut Numbers) -> Result<Command<'a>, Fault> {
         let Ok(line) = str::from_utf8(line) else {
             return Err(Fault::Malformed);
         };
@@ -135,15 +168,21 @@ impl Command {
             Some(ended) => (ended, ""),
             None => line.rsplit_once(' ').unwrap_or((line, "")),
         };
-        number(broken_off)?;
+        number(broken_off.as_bytes())?;
         match ended.split_once(' ') {
-            Some((name, words)) => Command::of(name, numbers(words)?),
-            None => Command::of(ended, ArrayVec::new()),
+            Some((name, words)) => {
+                numbers.read(words)?;
+                Command::of(name, numbers)
+            }
+            None => {
+                numbers.clear();
+                Command::of(ended, numbers)
+            }
         }
     }
 
     // The command of this name with these numbers.
-    fn of(name: &str, numbers: Numbers) -> Result<Command, Fault> {
+    fn of(name: &str, numbers: &'a Numbers) -> Result<Command<'a>, Fault> {
         if let Ok(part) = name.parse::<Part>() {
             return Ok(Command::Set(part, numbers));
         }

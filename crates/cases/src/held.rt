@@ -1,4 +1,6 @@
 // What the lines have set: the plan, the parts and the text, each as long as it was set.
+ghost use Rattle.std.specs.Prelude.{◌≡◌, ◌≤◌, length};
+
 use crate::command::{MOST, Numbers, Part};
 use arrayvec::ArrayVec;
 use plan::LentPlan;
@@ -52,25 +54,40 @@ pub struct Held {
     pub steps: ArrayVec<u16, MOST>,
 }
 
-// The numbers as a part, each cut to what it can hold.
-fn part<T: Default + Drop, F: Fn(usize) -> T>(numbers: &Numbers, cut: F) -> ArrayVec<T, MOST>
+// Writes numbers over as many places, each cut to what they can hold.
+fn write_over<T: Drop, F: Fn(usize) -> T>(places: &mut [T], numbers: &[usize], cut: F)
     requires { F.IsAlwaysCallable cut }
+    ensures { length places.new ≡ length places.old }
 {
-    let mut part = ArrayVec::new();
-    for number in numbers.as_slice() {
+    for (place, number) in places.iter_mut().zip(numbers) {
+        *place = cut(*number);
+    }
+}
+
+// Sets a part to the numbers, each cut to what it can hold: first the places that it has, then those behind them.
+fn set_part<T: Default + Drop, F: Fn(usize) -> T>(
+    part: &mut ArrayVec<T, MOST>,
+    numbers: &[usize],
+    cut: F,
+)
+    requires callable { F.IsAlwaysCallable cut }
+    requires room { length numbers.now ≤ MOST }
+{
+    part.truncate(numbers.len());
+    write_over(part.as_mut_slice(), numbers, &cut);
+    for number in &numbers[part.len()..] {
         part.push(cut(*number));
     }
-    part
 }
 
-// The numbers, each modulo 256.
-fn bytes(numbers: &Numbers) -> ArrayVec<u8, MOST> {
-    part(numbers, |number| (number % 256) as u8)
+// Sets a part to the numbers, each modulo 256.
+fn set_bytes(part: &mut ArrayVec<u8, MOST>, numbers: &Numbers) {
+    set_part(part, numbers.as_slice(), |number| (number % 256) as u8);
 }
 
-// The numbers, each modulo 65,536.
-fn words(numbers: &Numbers) -> ArrayVec<u16, MOST> {
-    part(numbers, |number| (number % 65536) as u16)
+// Sets the step slice to the numbers, each modulo 65,536.
+fn set_steps(steps: &mut ArrayVec<u16, MOST>, numbers: &Numbers) {
+    set_part(steps, numbers.as_slice(), |number| (number % 65536) as u16);
 }
 
 impl Held {
@@ -101,16 +118,16 @@ impl Held {
     // Sets a part.
     pub fn set(&mut self, part: Part, numbers: &Numbers) {
         match part {
-            Part::Radices => self.plan.radices = bytes(numbers),
-            Part::Weights => self.plan.weights = bytes(numbers),
-            Part::Tables => self.plan.tables = bytes(numbers),
-            Part::Products => self.plan.products = bytes(numbers),
-            Part::Digits => self.digits = bytes(numbers),
-            Part::Row => self.row = bytes(numbers),
-            Part::Store => self.store = bytes(numbers),
-            Part::Beta => self.beta = bytes(numbers),
-            Part::Full => self.full = bytes(numbers),
-            Part::Steps => self.steps = words(numbers),
+            Part::Radices => set_bytes(&mut self.plan.radices, numbers),
+            Part::Weights => set_bytes(&mut self.plan.weights, numbers),
+            Part::Tables => set_bytes(&mut self.plan.tables, numbers),
+            Part::Products => set_bytes(&mut self.plan.products, numbers),
+            Part::Digits => set_bytes(&mut self.digits, numbers),
+            Part::Row => set_bytes(&mut self.row, numbers),
+            Part::Store => set_bytes(&mut self.store, numbers),
+            Part::Beta => set_bytes(&mut self.beta, numbers),
+            Part::Full => set_bytes(&mut self.full, numbers),
+            Part::Steps => set_steps(&mut self.steps, numbers),
         }
     }
 

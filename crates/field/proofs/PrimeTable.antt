@@ -1,6 +1,7 @@
 -- The 53 numbers of the table are the odd primes up to 251: one test that antt computes over all p up to 251, and a law beyond.
 --     primes              the table
 --     member_is           the search of the table succeeds exactly where `odd_prime` holds
+--     odd_prime-above     none is above 251
 --     is_prime-means      the test of primality is primality by divisors
 --     odd_prime-means     `odd_prime` is: a prime, from 3 to 251
 --     for-each-prime      a test that is computed for all p up to 251 gives its fact at every prime of the table
@@ -40,7 +41,7 @@ within : list_all (λ q. ltb q 252) primes ≡ true
 unfolding primes
 within = refl
 
-odd_prime-above : (p : ℕ) → 251 < p → odd_prime p ≡ false
+pub odd_prime-above : (p : ℕ) → 251 < p → odd_prime p ≡ false
 unfolding odd_prime
 odd_prime-above p h = rw (lt-leb p 251 h, and-false (leb 3 p))
 

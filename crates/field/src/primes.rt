@@ -2,7 +2,8 @@
 ghost use Rattle.std.specs.Prelude.{◌≡◌};
 ghost use Rattle.field.specs.Primes.{odd_prime};
 
-const PRIMES: [usize; 53] = [
+// Bytes: the table is made on the stack at each call, and 53 numbers of eight bytes would be most of what a call takes.
+const PRIMES: [u8; 53] = [
     3, 5, 7, 11, 13, 17, 19, 23, 29, 31, 37, 41, 43, 47, 53, 59, 61, 67, 71, 73, 79, 83, 89, 97,
     101, 103, 107, 109, 113, 127, 131, 137, 139, 149, 151, 157, 163, 167, 173, 179, 181, 191, 193,
     197, 199, 211, 223, 227, 229, 233, 239, 241, 251,
@@ -12,5 +13,5 @@ const PRIMES: [usize; 53] = [
 pub fn is_odd_prime(p: usize) -> bool
     ensures { result ≡ odd_prime p }
 {
-    PRIMES.contains(&p)
+    p <= 251 && PRIMES.contains(&(p as u8))
 }

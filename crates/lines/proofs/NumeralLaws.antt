@@ -1,13 +1,15 @@
 -- What reading a number at a place answers, from what the code tests of the word there.
 --     none-there, one-there      what is answered where the word is no numeral, and where it is one
 --     outside                    what is answered past the end
+--     inside, none-empty         where the piece ends that has a byte, and what is answered where it has none
 --     none, found                what an answer says of the word
 -- Assumes nothing.
-use mathlib.Core.Path.{◌≡◌, refl}
+use mathlib.Core.Path.{◌≡◌, refl, ap, ◌∙◌}
 use mathlib.Core.Bool.{Bool, true, false, cond}
 use mathlib.Core.List.{List}
 use mathlib.Core.Logic.{◌⊎◌, inl, inr}
-use Prim.Native.Nat.{ℕ, ◌+◌, ◌<◌}
+use Prim.Native.Nat.{ℕ, ◌+◌, ◌≤◌, ◌<◌}
+use native.Mathlib.Nat.{add-zero}
 use native.Mathlib.Omega.{arith}
 use lib.Dec.{leb}
 use lib.ListN.{length}
@@ -35,6 +37,17 @@ module _ (most : ℕ) (bytes : List ℕ) (i : ℕ) where
       by (inl l) b h = absurd (omega (arith, ends, l))
       by (inr l) true h = absurd (omega (arith, ends, l, piece-fits 32 bytes i (leb-true i (length bytes) h)))
       by (inr l) false h = rw (piece-past 32 bytes i (omega (arith, leb-false i (length bytes) h))) (omega arith)
+
+  -- the piece at i ends at e, and has a byte
+  pub inside : (e : ℕ) → e ≡ i + length (word bytes i) → (e ≡ i → ⊥) → e ≤ length bytes
+  inside e ends some = by (leb i (length bytes)) refl
+    where
+      by : (b : Bool) → leb i (length bytes) ≡ b → e ≤ length bytes
+      by true h = omega (arith, ends, piece-fits 32 bytes i (leb-true i (length bytes) h))
+      by false h = absurd (some (ends ∙ ap (λ (w : List ℕ). i + length w) (piece-past 32 bytes i (omega (arith, leb-false i (length bytes) h))) ∙ add-zero i))
+
+  pub none-empty : (e : ℕ) → e ≡ i + length (word bytes i) → e ≡ i → None ≡ numeral_at most bytes i
+  none-empty e ends at-once = none-there (empty-word most (word bytes i) (omega (arith, ends, at-once)))
 
   pub one-there : is_numeral most (word bytes i) ≡ true → Some there ≡ numeral_at most bytes i
   unfolding numeral_at

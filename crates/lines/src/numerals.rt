@@ -62,7 +62,10 @@ pub fn number_at(line: &[u8], at: usize, most: usize) -> Option<Numeral>
     ensures { result ≡ specs.numeral_at most line.now at }
 {
     let end = piece_end(line, at, b' ');
-    let word = line.get(at..end)?;
+    if end == at {
+        return None;
+    }
+    let word = &line[at..end];
     if !is_numeral(word, most) {
         return None;
     }

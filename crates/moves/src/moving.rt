@@ -3,6 +3,16 @@ ghost use Rattle.std.specs.Prelude.{◌≡◌, ◌++◌, ◌+◌, ◌≤◌, len
 ghost use Rattle.plan.specs.Parts.{store_size, full_size};
 ghost use Rattle.moves.specs.Moves as specs;
 
+// Bytes copied one by one: `copy_from_slice` of the library calls memmove, and an archive for C calls nothing but memcpy and memset.
+fn copy_bytes(out: &mut [u8], bytes: &[u8])
+    requires { length out.old ≡ length bytes.now }
+    ensures { out.new ≡ bytes.now }
+{
+    for (j, byte) in bytes.iter().enumerate() {
+        out[j] = *byte;
+    }
+}
+
 // To the new layout: of each row the part from its diagonal on.
 pub fn halve(full: &[u8], half: &mut [u8], c: usize)
     requires c_bound { c ≤ 1024 }
@@ -14,7 +24,7 @@ pub fn halve(full: &[u8], half: &mut [u8], c: usize)
     let mut to = 0;
     for (q, row) in full.chunks_exact(width).enumerate() {
         let end = to + (width - q);
-        half[to..end].copy_from_slice(&row[q..]);
+        copy_bytes(&mut half[to..end], &row[q..]);
         to = end;
     }
 }
@@ -25,7 +35,7 @@ fn widen_row(row: &mut [u8], part: &[u8], q: usize)
     ensures { row.new ≡ replicate q 0 ++ part.now }
 {
     row[..q].fill(0);
-    row[q..].copy_from_slice(part);
+    copy_bytes(&mut row[q..], part);
 }
 
 // To the old layout: each row with zeros left of its diagonal.

@@ -1,4 +1,5 @@
 -- Writing pieces into the caller's slice, one behind the other (`Fits` and `Wrote` of specs/Placed.antt).
+--     stepped                        the four stores of a step
 --     wrote_none                     nothing
 --     room-front, wrote-fits         the room for two pieces: for the first, and for the second once the first is written
 --     wrote_then, wrote-3, wrote-4, wrote-6       two and more pieces one behind the other
@@ -10,11 +11,13 @@
 --     link-split, product-split, layout-split       a link, a product and the program in the order of the calls
 -- Assumes nothing.
 use mathlib.Core.Path.{◌≡◌, refl, sym, ap, ap₂, subst, ◌∙◌}
-use mathlib.Core.List.{List, [], ◌++◌}
-use Prim.Native.Nat.{ℕ, ◌+◌, ◌-◌, ◌*◌, ◌≤◌, ◌<◌}
+use mathlib.Core.List.{List, [], ◌++◌, append_assoc}
+use Prim.Native.Nat.{ℕ, suc, ◌+◌, ◌-◌, ◌*◌, ◌≤◌, ◌<◌}
 use native.Mathlib.Nat.{add-zero, add-sub_cancel_left}
+use native.Mathlib.Numerals.{add-one}
 use native.Mathlib.Omega.{arith}
-use lib.ListN.{length, take, drop, length-append}
+use lib.ListN.{length, set, take, drop, length-append}
+use lib.Seq.{sets-eq}
 use Rattle.lists.specs.Places.{joined, placed, at}
 use Rattle.lists.proofs.Joins.{joined-next, joined-mono, joined-ext}
 use Rattle.lists.proofs.Placing.{placed-nothing, placed-placed}
@@ -22,7 +25,7 @@ use Rattle.lists.proofs.Parts.{cut-length, part_at}
 use Rattle.plan.specs.Numbers.{variables}
 use Rattle.plan.specs.Parts.{link_start}
 use Rattle.plan.specs.declared.numbers.Plan.{Plan}
-use Rattle.program.specs.Layout.{clear, add, boot, adds, link_steps, square_steps, product_steps, layout}
+use Rattle.program.specs.Layout.{step, clear, add, boot, adds, link_steps, square_steps, product_steps, layout}
 use Rattle.program.specs.declared.writing.Writer.{Writer}
 use Rattle.program.specs.Placed.{Room, Fits, Wrote}
 
@@ -46,6 +49,24 @@ wrote_then {w} {v} {u} xs ys room h k =
       size = k.size ∙ h.size;
       same = k.same ∙ h.same;
     }
+
+-- a step's four stores put it in its place
+pub stepped : (out : List ℕ) (k kind to from by : ℕ) → Room out k (step kind to from by)
+    → set (set (set (set out k kind) (k + 1) to) (k + 2) from) (k + 3) by ≡ placed out k (step kind to from by)
+stepped out k kind to from by room =
+    ap (λ (n : ℕ). set (set (set (set out k kind) n to) (k + 2) from) (k + 3) by) one
+    ∙ ap₂ (λ (n m : ℕ). set (set (set (set out k kind) (suc k) to) n from) m by) two three
+    ∙ sets-eq (step kind to from by) out k room
+    ∙ append_assoc (take k out) (step kind to from by) (drop (k + 4) out)
+  where
+    one : k + 1 ≡ suc k
+    one = add-one k
+
+    two : k + 2 ≡ suc (suc k)
+    two = omega arith
+
+    three : k + 3 ≡ suc (suc (suc k))
+    three = omega arith
 
 pub wrote_none : (w : Writer) → Wrote w [] w
 wrote_none w = record { next = sym (add-zero w.at); list = sym (placed-nothing w.out.now w.at); size = refl; same = refl }

@@ -44,8 +44,12 @@ impl Writer<'_> {
         requires { Fits self.old (specs.step kind to from by) }
         ensures { Wrote self.old (specs.step kind to from by) self.new }
     {
-        self.out[self.at..self.at + 4].copy_from_slice(&[kind, to, from, by]);
-        self.at += 4;
+        let begin = self.at;
+        self.out[begin] = kind;
+        self.out[begin + 1] = to;
+        self.out[begin + 2] = from;
+        self.out[begin + 3] = by;
+        self.at = begin + 4;
     }
 
     // A register cleared.

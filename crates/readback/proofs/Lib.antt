@@ -3,6 +3,7 @@
 pub mod Cases
 pub mod Places
 pub mod Recovering
+pub mod Comparing
 pub mod StepsBack
 pub mod Numerals
 pub mod NumberLines

@@ -1,7 +1,7 @@
 // Coefficients out of a list of steps: read where the writer writes them, written again, and compared. They stand in a lent
 // slice, since nothing is allocated, and the answer says whether they count.
 ghost use Rattle.std.specs.Prelude.{◌≡◌, true, ◌+◌, ◌*◌, ◌≤◌, length};
-ghost use Rattle.lists.specs.Places.{tab};
+ghost use Rattle.lists.specs.Places.{tab, same};
 ghost use Rattle.field.specs.Rows.{all_below};
 ghost use Rattle.plan.specs.Numbers.{Within, columns};
 ghost use Rattle.program.specs.Steps.{by_of};
@@ -63,6 +63,23 @@ fn recover(plan: Plan, steps: &[u16], found: &mut [u8]) -> bool
     true
 }
 
+// Whether two lists of numbers are equal. They are compared to the end: without a way out, several places are compared at once. (`==` of the
+// library leaves at the first numbers that differ.)
+fn same_numbers(xs: &[u16], ys: &[u16]) -> bool
+    ensures { result ≡ same xs.now ys.now }
+{
+    if xs.len() != ys.len() {
+        return false;
+    }
+    let mut equal = true;
+    for (i, x) in xs.iter().enumerate() {
+        if *x != ys[i] {
+            equal = false;
+        }
+    }
+    equal
+}
+
 // Whether the coefficients that stand in the list, written again, give the list. They are left in `found`; where they do not, what stands
 // there has no meaning.
 pub fn is_written(plan: &CheckedPlan, steps: &[u16], found: &mut [u8]) -> bool
@@ -80,5 +97,5 @@ pub fn is_written(plan: &CheckedPlan, steps: &[u16], found: &mut [u8]) -> bool
     let mut buffer = program::steps_buffer();
     let again = &mut buffer[..end];
     program::put_program(plan.numbers, plan.weights, plan.products, found, again);
-    steps == again
+    same_numbers(steps, again)
 }

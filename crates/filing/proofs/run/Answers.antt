@@ -16,8 +16,8 @@ returns-clause-printed g c =
 pub returns-clause-known : goal.returns-clause-known
 returns-clause-known g c =
     let reads = c.read_all-read.ensures in
-    let ended = c.branch-read.ensures ∙ ap result_from_control_flow c.in_ok-read.is in
-    known _ _ c.map_err.result (printed-ended reads.fed ended reads.ended c.print_end.ensures.out_after c.print_end.result c.print_end.ensures.written c.map_err.result c.map_err.ensures.cases)
+    let end = c.branch-read.ensures ∙ ap result_from_control_flow c.in_ok-read.is in
+    known _ _ c.map_err.result (printed-ended reads.fed end reads.ended c.print_end.ensures.out_after c.print_end.result c.print_end.ensures.written c.map_err.result c.map_err.ensures.cases)
 
 pub returns-in_err-read-clause-printed : goal.returns-in_err-read-clause-printed
 returns-in_err-read-clause-printed g c =
@@ -28,5 +28,5 @@ returns-in_err-read-clause-printed g c =
 pub returns-in_err-read-clause-known : goal.returns-in_err-read-clause-known
 returns-in_err-read-clause-known g c =
     let reads = c.read_all-read.ensures in
-    let stopped = c.branch-read.ensures ∙ ap result_from_control_flow c.in_err-read.is in
-    known _ _ c.from_residual.result (printed-stopped reads.fed {out = c.args.room.now.out.now} stopped reads.ended c.from_residual.result c.from_residual.ensures.1)
+    let stop = c.branch-read.ensures ∙ ap result_from_control_flow c.in_err-read.is in
+    known _ _ c.from_residual.result (printed-stopped reads.fed {out = c.args.room.now.out.now} stop reads.ended c.from_residual.result c.from_residual.ensures.1)

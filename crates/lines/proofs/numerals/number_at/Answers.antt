@@ -3,15 +3,18 @@ use Rattle.std.proofs.Common.{arith, ◌∙◌, sym, ap}
 use Rattle.lines.specs.Lines.{is_numeral}
 use Rattle.lines.proofs.WordLaws.{piece-part}
 use Rattle.lines.proofs.DigitLaws.{numeral-parts}
-use Rattle.lines.proofs.NumeralLaws.{none-there, outside, one-there}
+use Rattle.lines.proofs.NumeralLaws.{none-there, inside, none-empty, one-there}
 use Rattle.lines.proofs.numerals.number_at.Goals as goal
 
-pub returns-in_err-word : goal.returns-in_err-word
-returns-in_err-word c = c.from_residual.ensures ∙ outside _ _ _ _ c.piece_end-end.ensures c.in_err-word.ensures.lookup.0
+pub returns-then-end-at : goal.returns-then-end-at
+returns-then-end-at c = none-empty _ _ _ _ c.piece_end-end.ensures c.if-end-at.true
+
+pub slice_bounds-word-end : goal.slice_bounds-word-end
+slice_bounds-word-end c = inside c.args.most _ _ _ c.piece_end-end.ensures c.if-end-at.false
 
 pub returns-then-not-is_numeral : goal.returns-then-not-is_numeral
 returns-then-not-is_numeral c =
-    let word = c.in_ok-word.ensures.lookup.0.2 ∙ piece-part 32 _ _ _ c.piece_end-end.ensures in
+    let word = piece-part 32 _ _ _ c.piece_end-end.ensures in
     none-there _ _ _ (ap (is_numeral c.args.most) (sym word) ∙ sym c.if-not-is_numeral.ensures)
 
 pub value-requires : goal.value-requires
@@ -22,5 +25,5 @@ value-requires c =
 pub returns : goal.returns
 returns c =
     let end = c.piece_end-end.ensures in
-    let word = c.in_ok-word.ensures.lookup.0.2 ∙ piece-part 32 _ _ _ end in
+    let word = piece-part 32 _ _ _ end in
     rw (c.value.ensures, word, end) (one-there _ _ _ (ap (is_numeral c.args.most) (sym word) ∙ sym c.if-not-is_numeral.ensures))

@@ -14,8 +14,8 @@ loop-q-init c =
     rw (c.into_iter-q-iterator.ensures.into_iter_gives, c.enumerate-q-items.ensures.source, c.enumerate-q-items.ensures.count, zero-mul)
     (halving-none _ _ _ c.requires.half_len, all.rest, all.size)
 
-pub slice_bounds-copy_from_slice-end : goal.slice_bounds-copy_from_slice-end
-slice_bounds-copy_from_slice-end c =
+pub slice_bounds-copy_bytes-end : goal.slice_bounds-copy_bytes-end
+slice_bounds-copy_bytes-end c =
     let steps = c.in-Some.ensures.steps in
     let inv = c.loop-q.invariant in
     let near = chunk-within c.args.c c.args.full.now c.loop-q.q-iterator.count c.in-Some.row.now _ (sym inv.1 ∙ steps.0.1.0) (steps.0.1.1 ∙ inv.2) c.requires.full_len inv.0.within in
@@ -36,7 +36,7 @@ loop-q-preserved c =
     let next : c.next.new.self.count ≡ q + 1 = omega (arith, steps.1, steps.2) in
     let near : q < C = chunk-within C full q row rest cut count c.requires.full_len done.within in
     rw next (
-      halving-next done near row (chunk-row C full q row rest cut count) count _ c.copy_from_slice.ensures.after,
+      halving-next done near row (chunk-row C full q row rest cut count) count _ c.copy_bytes.ensures,
       chunk-rest C full q row rest cut count,
       steps.0.0 ∙ inv.2,
     )

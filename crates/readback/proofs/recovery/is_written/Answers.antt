@@ -8,7 +8,6 @@ use lib.ListN.{length}
 use lib.Seq.{length-take-le}
 use Rattle.lists.specs.Places.{same}
 use Rattle.lists.proofs.Placing.{placed-whole}
-use Rattle.lists.proofs.Sameness.{eq-same}
 use Rattle.plan.specs.declared.numbers.Plan.{Plan}
 use Rattle.plan.specs.Numbers.{Within}
 use Rattle.program.specs.Layout.{layout, step_count}
@@ -51,7 +50,6 @@ returns-clause-value c =
     let part = length-take-le _ _ (fits _ _ c.steps_buffer-buffer.result plan.within c.step_count-end.ensures c.steps_buffer-buffer.ensures.value) in
     let size = layout-length plan.numbers plan.weights.now plan.products.now c.recover.new.found in
     let again = c.put_program.ensures ∙ placed-whole _ _ (omega (arith, part, c.step_count-end.ensures, size)) in
-    c.eq.ensures
-    ∙ eq-same steps _
+    c.same_numbers.ensures
     ∙ ap (same steps) (again ∙ ap program (c.recover.ensures.found_after c.if-not-recover.false))
     ∙ sym (written_as plan.numbers plan.weights.now plan.products.now steps (sym c.if-not-recover.ensures.value))
